@@ -123,10 +123,10 @@ def literal(sql, before, blanks, limit=100):
         return f'"{sql}"'
     return '"' + f'\\\n{blanks}'.join(sql_lines(sql, limit - len(f'{blanks}\\'))) + '"'
 
-def sql_lines(sql, limit=90):
+def sql_lines(sql, limit=90, broken=r'(^CREATE TABLE \w+ \(| (?=FROM ))'):
     """The lines of an SQL text that is broken"""
     lines = []
-    for clause in re.sub(r'(^CREATE TABLE \w+ \(| (?=FROM ))', r'\1\n', sql).split('\n'):
+    for clause in re.sub(broken, r'\1\n', sql).split('\n'):
         lines.append('')
         for part in re.split(r'(?<=, )(?![^(]*\)\))', clause):
             if lines[-1] and len(f'{lines[-1]}{part}') > limit:
@@ -137,7 +137,7 @@ def sql_lines(sql, limit=90):
 def equation(head, sql, limit=150):
     """The equation that a name is an SQL text: a literal, or several that are joined if the line is too long"""
     whole = f'{head} = {q(sql)}'
-    return whole if len(whole) <= limit else '\n    '.join([f'{head} =', '\n    ++ '.join(q(line) for line in sql_lines(sql))])
+    return whole if len(whole) <= limit else '\n    '.join([f'{head} =', '\n    ++ '.join(q(line) for line in sql_lines(sql, limit - 20, r'( (?=FROM ))'))])
 
 def col_is(t, c, shown, agg, alias):
     return f'column_is schema at ({shape(t)} tree) found ({q(TABLES[t][0])}) {shown} [] {agg} {alias} ({q(c)}) {index(t, c)} ({kind(t, c)} ({q(c)})) refl refl'
@@ -196,7 +196,7 @@ use Rattle.sqlite_draft.specs.declared.join.Step.TheVariants.{{Inner}}
 use Rattle.sqlite_draft.specs.declared.query.Draft.{{Draft}}
 use Rattle.sqlite_draft.specs.Query.{{query_of}}
 use Rattle.sqlite_tied.specs.Compute.{{everything}}
-use Rattle.brk_tables_sql.specs.Partly.{{sql_lowering_definitions}}
+use Rattle.brk_tables_sql.proofs.Partly.{{sql_lowering_definitions}}
 use Rattle.brk_tables_sql.specs.Desk.{{integer_column, text_column, nullable_integer_column, IsTableAt}}
 use Rattle.brk_tables_sql.proofs.Meant.{{meant, inserts, updates_or, deletes_or, reads_or}}
 use Rattle.brk_tables_sql.proofs.Pick.{{selection, whole_page}}
@@ -405,7 +405,9 @@ plain = asks_plainly {shape(t)} statement ask paging is_asked
 
 
 def shapes():
-    out = """-- Written by tools/generate/tables.py: the definition of each table, with its rows at any tree.
+    out = """-- Written by tools/generate/tables.py: the definition of each table: its columns, its primary key, and
+-- its UNIQUE constraints and foreign keys, if any. The database stores its rows under the number
+-- `tree`.
 use Rattle.std.specs.Prelude.{ℕ, List, [], ◌∷◌, codes, Some, None}
 use Rattle.sqlite_schema.specs.declared.schema.Table.{Table}
 use Rattle.brk_tables_sql.specs.Desk.{text_column, integer_column, nullable_integer_column, foreign_key, table_without_checks}
@@ -421,7 +423,7 @@ use Rattle.brk_tables_sql.specs.Desk.{text_column, integer_column, nullable_inte
         refs = [f'foreign_key {spot(i)} ({q(r.split(".")[0])}) ({q(r.split(".")[1])})' for i, (c, k, _, r) in enumerate(cols) if r]
         refs = f'({lst(refs)})' if len(lst(refs)) < 130 else '\n    (' + folded('', refs + ['[]'], '∷').strip() + ')'
         out += f"""
-{remark(f'The definition of the table {sql}, whose rows the database stores under the number `tree`: its columns, its primary key, and its UNIQUE constraints and foreign keys, if any.')}
+-- The definition of the table {sql}.
 abbrev pub {shape(t)} : ℕ → Table
 {shape(t)} tree = table_without_checks ({q(sql)}) tree{cs}
     {'(Some 0)' if rowkey else 'None'} ({primary}) ({lst(uniques)}) {refs}
@@ -478,7 +480,7 @@ abbrev pub {t}_cells : {row} → Row
 def desk():
     both = lambda f: '\n'.join(f(d) for d in DATA)
     out = f"""-- Written by tools/generate/tables.py: the tables of a desk, and the list of rows that each holds.
-use Rattle.std.specs.Prelude.{{◌≡◌, ℕ, Bool, true, List, [], ◌∷◌, Option, Some, None, map, filter, not, refl}}
+use Rattle.std.specs.Prelude.{{◌≡◌, ℕ, Bool, true, List, [], ◌∷◌, Option, Some, None, filter, not, refl}}
 use Rattle.std.specs.declared.cmp.Ordering.{{Ordering}}
 use Rattle.sqlite_value.specs.Order.{{Row}}
 use Rattle.sqlite_schema.specs.declared.schema.Table.{{Table}}
@@ -522,8 +524,7 @@ abbrev pub schema_has_table : Schema → DeskTable → Bool
 {chr(10).join(f'schema_has_table schema {d[2]} = schema.{LATER[d[0]]}' for d in DATA if d[0] in LATER)}
 schema_has_table schema w = true
 
--- The definition of the table `w` of a desk, with its rows at the given tree: its SQL name,
--- columns, keys and foreign keys.
+-- The definition of the table `w` of a desk, with its rows at the given tree.
 abbrev pub table_definition_at_tree : DeskTable → ℕ → Table
 {both(lambda d: f'table_definition_at_tree {d[2]} = {shape(d[0])}')}
 
@@ -543,13 +544,11 @@ abbrev pub encoded_row : (w : DeskTable) → RecordOfTable w → Row
 abbrev pub primary_key_of_record : (w : DeskTable) → RecordOfTable w → List KeyPart
 {both(lambda d: f'primary_key_of_record {d[2]} = {d[4]}')}
 
--- The ordering of two records of the table `w` by their primary keys, part by part, in the order of
--- SQL values.
+-- The ordering of two records of the table `w` by their primary keys, part by part.
 abbrev pub ordering_by_primary_key : (w : DeskTable) → RecordOfTable w → RecordOfTable w → Ordering
 ordering_by_primary_key w = ordering_by_key (primary_key_of_record w)
 
--- The records of the table `w` of a desk with the tables `t`. Only the record of DESK depends on
--- the schema.
+-- The records of the table `w` of a desk with the tables `t`; that of DESK depends on the schema.
 abbrev pub rows_of_table_in_schema : Schema → (w : DeskTable) → Tables → List (RecordOfTable w)
 {both(lambda d: f'rows_of_table_in_schema schema {d[2]} t = {d[5]}')}
 
@@ -557,8 +556,7 @@ abbrev pub rows_of_table_in_schema : Schema → (w : DeskTable) → Tables → L
 abbrev pub rows_of_table : (w : DeskTable) → Tables → List (RecordOfTable w)
 rows_of_table = rows_of_table_in_schema third_schema
 
--- All tables of a desk, also those that `schema` lacks, as the tables of a program: their
--- definitions, records, encodings and orders. The row of DESK has the number of `schema`.
+-- All tables of a desk, also those that `schema` lacks, as the tables of a program.
 abbrev pub desk_tables_of_schema : Schema → ProgramTables DeskTable Tables
 desk_tables_of_schema schema = record {{
   shape = table_definition_at_tree;
@@ -569,8 +567,7 @@ desk_tables_of_schema schema = record {{
   list = rows_of_table_in_schema schema;
 }}
 
--- All tables of a desk in schema 3 as the tables of a program: their definitions, records,
--- encodings and orders.
+-- All tables of a desk in schema 3 as the tables of a program.
 abbrev pub desk_tables : ProgramTables DeskTable Tables
 desk_tables = desk_tables_of_schema third_schema
 
@@ -582,18 +579,13 @@ abbrev pub all_tables : List DeskTable
 abbrev pub tables_in_schema : Schema → List DeskTable
 tables_in_schema schema = filter (schema_has_table schema) all_tables
 
--- The list of the tables of a desk that the schema `schema` does not have and later schemas add, in
--- the order of `all_tables`; empty for schema 3.
+-- The list of the tables that the schema `schema` does not have, in the order of `all_tables`.
 abbrev pub tables_of_later_schemas : Schema → List DeskTable
 tables_of_later_schemas schema = filter (λ w. not (schema_has_table schema w)) all_tables
 
 -- The SQL name of the table `w`, in ASCII.
 abbrev pub table_name : DeskTable → List ℕ
 table_name w = (table_definition_at_tree w 0).name
-
--- The SQL names of all tables of a desk, in ASCII, in the order of `all_tables`.
-abbrev pub all_table_names : List (List ℕ)
-all_table_names = map table_name all_tables
 """
     save(f'{SPECS}/Desk.antt', out)
 
@@ -848,18 +840,18 @@ pub(crate) static DEFINITIONS: [Definition; {len(DATA)}] = [
     save('crates/brk_tables_definitions/src/desk_tables.rt', out)
     every = ', '.join(d[2] for d in DATA)
     out = f"""-- Written by tools/generate/tables.py: a desk's tables are known by their names, and their foreign keys write no rows.
-use Rattle.std.proofs.Common.{{◌≡◌, ℕ, List, Option, Some, true, refl, sym, ap, ◌∙◌, slice_get}}
+use Rattle.std.proofs.Common.{{◌≡◌, ℕ, List, Option, Some, true, map, refl, sym, ap, ◌∙◌, slice_get}}
 use Rattle.std.specs.Prelude.{{bytes_eq, option_and_then}}
 use Rattle.std.specs.List.{{position_from}}
 use Rattle.brk_tables_sql.specs.Desk.{{has_no_writing_foreign_keys}}
-use Rattle.brk_tables_schema.specs.Desk.{{DeskTable, {every}, all_tables, all_table_names, table_definition_at_tree}}
+use Rattle.brk_tables_schema.specs.Desk.{{DeskTable, {every}, all_tables, table_name, table_definition_at_tree}}
 
 -- No foreign key of a desk's table changes or deletes rows.
 pub keys_write_nothing : (w : DeskTable) (tree : ℕ) → has_no_writing_foreign_keys (table_definition_at_tree w tree) ≡ true
 {chr(10).join(f'keys_write_nothing {d[2]} tree = refl' for d in DATA)}
 
 abbrev table_of_name : List ℕ → Option DeskTable
-table_of_name name = option_and_then (slice_get all_tables) (position_from (bytes_eq name) 0 all_table_names)
+table_of_name name = option_and_then (slice_get all_tables) (position_from (bytes_eq name) 0 (map table_name all_tables))
 
 known_by_name : (w : DeskTable) (tree : ℕ) → table_of_name (table_definition_at_tree w tree).name ≡ Some w
 {chr(10).join(f'known_by_name {d[2]} tree = refl' for d in DATA)}
@@ -1052,7 +1044,6 @@ ROW_READS = {'desk_row': 'desk_rows', 'band': 'commission_rate_rows', 'history':
 WHICHES = ', '.join(d[2] for d in DATA)
 CELLS = ', '.join(d[0] + '_cells' for d in DATA)
 SAME_REFERENCE = 'ensures same_reference { tx.new.conn.ghost_name ≡ tx.old.conn.ghost_name }'
-STORE_FAULT = 'ensures fault { OnErr result (result ≡ Err Store) }'
 
 def groups():
     """Each group with its tables"""
@@ -1116,10 +1107,9 @@ def read_whole(d):
     columns, keys = ', '.join(c[0] for c in d[7]), ', '.join(key_columns(d))
     kind = 'fn' if d[0] in LATER else 'pub fn'
     return f"""
-{kind} {rows_name(d)}<S: Alter>(tx: &mut Transaction<'_, S>) -> Result<Vec<Row>, Fault>
+{kind} {rows_name(d)}<S: Alter>(tx: &mut Transaction<'_, S>) -> Result<Vec<Row>, StoreFailed>
     {SAME_REFERENCE}
     ensures step {{ ReadsAllRows S.Store tx.old tx.new result {d[2]} }}
-    {STORE_FAULT}
 {{
     select_rows(
         tx,
@@ -1137,10 +1127,9 @@ pub fn {rows_name(d)}_in_schema<S: Alter>(
     tx: &mut Transaction<'_, S>,
     alloc: Global,
     schema: Schema,
-) -> Result<Vec<Row>, Fault>
+) -> Result<Vec<Row>, StoreFailed>
     {SAME_REFERENCE}
     ensures step {{ ReadsRowsIfInSchema S.Store tx.old tx.new result (abstract_schema schema) {d[2]} }}
-    {STORE_FAULT}
 {{
     if !schema.{LATER[d[0]]}() {{
         return Ok(Vec::new(alloc));
@@ -1155,14 +1144,13 @@ def rows_code():
 //! returned rows are specified only if the table is defined as a desk defines it, and their order
 //! only if they encode records with distinct keys (`AreTableRows`).
 
-ghost use Rattle.std.specs.Prelude.{{◌≡◌, Err, OnErr}};
-ghost use Rattle.brk_money.specs.declared.fault.Fault.TheVariants.{{Store}};
+ghost use Rattle.std.specs.Prelude.{{◌≡◌}};
 ghost use Rattle.brk_tables_schema.specs.Desk.{{{WHICHES}}};
 ghost use Rattle.brk_trade_rows.specs.Schemas.{{abstract_schema}};
 ghost use Rattle.brk_tables_scan.specs.Whole.{{ReadsRowsIfInSchema, ReadsAllRows}};
 
 use brk_trade_rows::Schema;
-use brk_money::Fault;
+use brk_money::StoreFailed;
 use brk_tables_schema::calls::select_rows;
 use sqlite::{{Alter, Row, Transaction}};
 use std::alloc::Global;
@@ -1190,7 +1178,7 @@ def read_group(word, field, tables):
     of_decoded = '(abstract_schema schema) ' if word == 'Owner' else ''
     schema = lambda wanted: '    schema: Schema,\n' if word == wanted else ''
     shows = 'ReadsOwnerTables decoder.old.are_well_formed decoder.new.are_well_formed raw' if word == 'Owner' else f'Shows{word}Tables {of_read}raw'
-    fault = 'ensures fault { IfErr result IsCallFault }' if word == 'Owner' else STORE_FAULT
+    error = 'CallFault' if word == 'Owner' else 'StoreFailed'
     more = {'Owner': '    alloc: Global,\n    decoder: &mut Decoder,\n', 'Later': '    alloc: Global,\n    schema: Schema,\n'}.get(word, '')
     raws = ''.join(f'    {raw_field(d)}: Vec<{"Key" if d[0] == "kept" else "Row"}>,\n' for d in tables)
     types = ''.join(f'    {sheet_field(d)}: {VALUES[d[0]][0] if d[0] in VALUES else f"Vec<{sheet_type(d)}>"},\n' for d in tables)
@@ -1207,10 +1195,9 @@ pub struct {word}Rows {{
 
 fn {group_function('read', word)}<S: Alter>(
     tx: &mut Transaction<'_, S>,
-{more}) -> Result<{word}Rows, Fault>
+{more}) -> Result<{word}Rows, {error}>
     {SAME_REFERENCE}
     ensures step {{ IsConnectionStep S.Store tx.old tx.new result (λ raw. {shows}) }}
-    {fault}
 {{
 {reads}    Ok({word}Rows {{
 {raw_fields}    }})
@@ -1225,10 +1212,9 @@ fn {group_function('decode', word)}(
     alloc: Global,
 {schema('Owner')}    raw: {word}Rows,
     decoder: &mut Decoder,
-) -> Result<{word}Sheets, Fault>
+) -> Result<{word}Sheets, AllocError>
     ensures decoded {{ IfOk result (λ sheets. ContinuesDecoding decoder.old.are_well_formed decoder.new.are_well_formed
         (are_{words_of(word)}_rows_well_formed {of_decoded}raw) (Decodes{word}Tables {of_decoded}sheets raw)) }}
-    ensures fault {{ OnErr result (result ≡ Err Memory) }}
 {{
 {decodes}    Ok({word}Sheets {{
 {fields}    }})
@@ -1246,9 +1232,7 @@ def all_tables_code():
 //! exactly one row with the number of the schema, or SETTLE_RULE two rows or more,
 //! `are_well_formed` of the decoder is false, and there are no typed rows of this table.
 
-ghost use Rattle.std.specs.Prelude.{{◌≡◌, Err, IfErr, IfOk, OnErr}};
-ghost use Rattle.brk_money.specs.declared.fault.Fault.TheVariants.{{Memory, Store}};
-ghost use Rattle.brk_model.specs.Run.{{IsCallFault}};
+ghost use Rattle.std.specs.Prelude.{{◌≡◌, IfOk}};
 ghost use Rattle.brk_trade_rows.specs.Schemas.{{abstract_schema}};
 ghost use Rattle.brk_tables_sql.specs.Model.{{IsConnectionStep}};
 ghost use Rattle.brk_tables_scan.specs.Raw.{{{', '.join(f'Shows{group[0]}Tables' for group in GROUPS[1:])}}};
@@ -1258,11 +1242,11 @@ ghost use Rattle.brk_tables_scan.specs.Decoded.{{ContinuesDecoding, ReadsOwnerTa
 
 use crate::decoder::Decoder;
 use crate::rows::{{{', '.join(reads)}}};
-use brk_money::{{Day, Fault, Stamp}};
+use brk_money::{{CallFault, Day, Stamp, StoreFailed}};
 use brk_ref::{{{types}}};
 use brk_trade_rows::{{Schema, Sheets}};
 use sqlite::{{Alter, Row, Transaction}};
-use std::alloc::Global;
+use std::alloc::{{AllocError, Global}};
 """
     out += ''.join(read_group(word, field, tables) for word, field, _, tables in groups())
     more = lambda word: {'Owner': ', alloc, decoder', 'Later': ', alloc, schema'}.get(word, '')
@@ -1278,11 +1262,10 @@ fn read_raw_sheets<S: Alter>(
     alloc: Global,
     schema: Schema,
     decoder: &mut Decoder,
-) -> Result<RawSheets, Fault>
+) -> Result<RawSheets, CallFault>
     {SAME_REFERENCE}
     ensures step {{ IsConnectionStep S.Store tx.old tx.new result
         (λ raw. ReadsRawSheets (abstract_schema schema) decoder.old.are_well_formed decoder.new.are_well_formed raw) }}
-    ensures fault {{ IfErr result IsCallFault }}
 {{
 {''.join(f'    let {field} = {group_function("read", word)}(tx{more(word)})?;{chr(10)}' for word, field, _ in GROUPS)}    Ok(RawSheets {{
 {''.join(f'        {field},{chr(10)}' for _, field, _ in GROUPS)}    }})
@@ -1293,11 +1276,10 @@ fn decode_raw_sheets(
     schema: Schema,
     raw: RawSheets,
     decoder: &mut Decoder,
-) -> Result<Sheets, Fault>
+) -> Result<Sheets, AllocError>
     ensures decoded {{ IfOk result (λ sheets. ContinuesDecoding decoder.old.are_well_formed decoder.new.are_well_formed
         (are_raw_rows_well_formed (abstract_schema schema) raw) (DecodesRows (abstract_schema schema) sheets raw)) }}
     ensures of_schema {{ IfOk result (λ sheets. sheets.schema ≡ schema) }}
-    ensures fault {{ OnErr result (result ≡ Err Memory) }}
 {{
 {''.join(f'    let {field} = {group_function("decode", word)}(alloc, {owner(word)}raw.{field}, decoder)?;{chr(10)}' for word, field, _ in GROUPS)}    Ok(Sheets {{
         schema,
@@ -1310,12 +1292,11 @@ pub(crate) fn read_all_tables<S: Alter>(
     alloc: Global,
     schema: Schema,
     decoder: &mut Decoder,
-) -> Result<Sheets, Fault>
+) -> Result<Sheets, CallFault>
     {SAME_REFERENCE}
     ensures step {{ IsConnectionStep S.Store tx.old tx.new result
         (λ sheets. ReadsAndDecodesDeskTables (abstract_schema schema) decoder.old.are_well_formed decoder.new.are_well_formed sheets) }}
     ensures of_schema {{ IfOk result (λ sheets. sheets.schema ≡ schema) }}
-    ensures fault {{ IfErr result IsCallFault }}
 {{
     let raw = read_raw_sheets(tx, alloc, schema, decoder)?;
     let sheets = decode_raw_sheets(alloc, schema, raw, decoder)?;
@@ -1352,8 +1333,7 @@ abbrev pub IsUnchangedAndOpen : State → State → Type 0
 IsUnchangedAndOpen old new = IsTrue old.is_open × (new.now ≡ old.now)
 
 -- The database was open, and the reads changed nothing. The lists `a`, `b`, `c` and `d` are all
--- rows of the tables `first`, `second`, `third` and `fourth` (`ShowsAllRows`). The clause on a
--- table is vacuous if the database does not define it as a desk does.
+-- rows of the tables `first`, `second`, `third` and `fourth` (`ShowsAllRows`).
 pub record ShowsFourTables (first second third fourth : DeskTable) (a b c d : List Row) (old new : State) : Type 0 where
   pub stays : IsUnchangedAndOpen old new
   pub one : ShowsAllRows first a old.now
@@ -1363,22 +1343,19 @@ pub record ShowsFourTables (first second third fourth : DeskTable) (a b c d : Li
 """
     for word, _, _, tables in groups()[1:-1]:
         out += f"""
-{remark(f'The database was open, the reads changed nothing, and the raw rows are all rows of {named(tables)} (`ShowsAllRows`). The clause on a table is vacuous if the database does not define it as a desk does.')}
+{remark(f'`ShowsFourTables` of the raw rows of {named(tables)}.')}
 abbrev pub Shows{word}Tables : {word}Rows → State → State → Type 0
 Shows{word}Tables raw = ShowsFourTables {' '.join(d[2] for d in tables)} {' '.join(f'raw.{raw_field(d)}.items' for d in tables)}
 """
     out += f"""
 -- The reads changed nothing. The lists `a` and `b` are all rows of CASH_MOVE and SETTLE_RULE, or
--- none of a table that the schema `desk` does not have (`ShowsRowsIfInSchema`). The clause on a
--- table is vacuous if the database does not define it as a desk does.
+-- none of a table that the schema `desk` does not have (`ShowsRowsIfInSchema`).
 pub record ShowsTwoLaterTables (desk : Schema) (a b : List Row) (old new : State) : Type 0 where
   pub same : new.now ≡ old.now
   pub moves : ShowsRowsIfInSchema desk CashMoves a old.now
   pub rule : ShowsRowsIfInSchema desk SettleRules b old.now
 
--- The reads changed nothing, and the raw rows are all rows of CASH_MOVE and SETTLE_RULE, or none of
--- a table that the schema `desk` does not have (`ShowsTwoLaterTables`). The clause on a table is
--- vacuous if the database does not define it as a desk does.
+-- `ShowsTwoLaterTables` of the raw rows of CASH_MOVE and SETTLE_RULE.
 abbrev pub ShowsLaterTables : Schema → LaterRows → State → State → Type 0
 ShowsLaterTables desk raw = ShowsTwoLaterTables desk raw.moves.items raw.rule.items
 
@@ -1386,9 +1363,8 @@ ShowsLaterTables desk raw = ShowsTwoLaterTables desk raw.moves.items raw.rule.it
 abbrev pub raw_rows_of_table : List Row → RawSheets → DeskTable → List Row
 {chr(10).join(f'raw_rows_of_table kept raw {d[2]} = ' + ('kept' if d[0] == 'kept' else f'raw.{field}.{raw_field(d)}.items') for _, field, _, tables in groups() for d in tables)}
 
--- The database was open, and its contents are unchanged. The raw rows are all rows of each table of
--- the schema `desk`, and none of other tables (`ShowsRowsIfInSchema`). The clause on a table is
--- vacuous if the database does not define it as a desk does.
+-- The database was open, and the reads changed nothing. The raw rows are all rows of each table of
+-- the schema `desk`, and none of other tables (`ShowsRowsIfInSchema`).
 pub record ShowsAllTables (desk : Schema) (kept : List Row) (raw : RawSheets) (a b : State) : Type 0 where
   pub stays : IsUnchangedAndOpen a b
   pub shown : (w : DeskTable) → ShowsRowsIfInSchema desk w (raw_rows_of_table kept raw w) a.now
@@ -1414,7 +1390,7 @@ def decoded_group(word, field, tables):
 pub record Decodes{word}Tables {'(schema : Schema) ' if first else ''}(sheets : {word}Sheets) (raw : {word}Rows) : Type 0 where
 {fields}
 
-{remark(f'True if each raw row of {named(unkept)} has exactly the columns of its table, each well-formed (`passes_all_cell_checks`)' + counted)}
+{remark('True if each of these raw rows is well-formed (`passes_all_cell_checks`)' + counted)}
 abbrev pub are_{words_of(word)}_rows_well_formed : {'Schema → ' if first else ''}{word}Rows → Bool
 {folded(f'are_{words_of(word)}_rows_well_formed ' + ('desk ' if first else '') + 'raw =', [form(d) for d in unkept], '&&')}
 """
@@ -1445,13 +1421,11 @@ use Rattle.brk_tables_scan.specs.declared.all_tables.RawSheets.{{RawSheets}}
     out += ''.join(decoded_group(word, field, tables) for word, field, _, tables in groups())
     desk = lambda word: 'desk ' if word == 'Owner' else ''
     out += f"""
--- True if each raw row of each table but KEPT has exactly the columns of its table, each well-formed
--- (`passes_all_cell_checks`), there is exactly one row of DESK, with the number of the schema
--- `desk`, and there is at most one row of SETTLE_RULE.
+-- True if the raw rows of each table but KEPT are well-formed.
 abbrev pub are_raw_rows_well_formed : Schema → RawSheets → Bool
 {folded('are_raw_rows_well_formed desk raw =', [f'are_{words_of(word)}_rows_well_formed {desk(word)}raw.{field}' for word, field, _ in GROUPS], '&&')}
 
--- True if each row of KEPT has exactly the columns of its table, each well-formed.
+-- True if each row of KEPT is well-formed.
 abbrev pub are_kept_rows_well_formed : List Row → Bool
 are_kept_rows_well_formed kept = list_all (passes_all_cell_checks kept_column_cell_checks) kept
 
@@ -1462,9 +1436,7 @@ are_raw_sheets_well_formed desk kept raw = are_kept_rows_well_formed kept && are
 
 -- The raw rows of each table are, in order, the encodings of the typed rows `sheets`. Of KEPT,
 -- `sheets` has the keys alone: the raw rows of KEPT are, in order, the encodings of `whole`, typed
--- rows with these keys and any texts. DESK has exactly one row, with the id 1 and the number of the
--- schema `desk`. SETTLE_RULE has one row if `sheets` has a first day of one-day settlement,
--- otherwise none.
+-- rows with these keys and any texts.
 pub record DecodesSheets (desk : Schema) (kept : List Row) (sheets : Sheets) (raw : RawSheets) : Type 0 where
   pub whole : List typed.Kept
   pub keys : keys_of_kept_rows whole ≡ map abstract_key sheets.kept.items
@@ -1480,18 +1452,13 @@ DecodesRows desk sheets raw = (kept : List Row) → AreKeysOfRawRows raw.owners.
 -- well-formed. If `new` is true, `old` is true and `Decodes` holds. If `new` is false, `old` or
 -- `are_well_formed` is false.
 pub record ContinuesDecoding (old new are_well_formed : Bool) (Decodes : Type 0) : Type 0 where
-  -- If the flag is true after the step, it was true before it.
   pub before : new ≡ true → old ≡ true
-  -- If the flag is true after the step, the step decodes its rows.
   pub value : new ≡ true → Decodes
-  -- If the flag is false after the step, it was false before it, or the rows of the step are not
-  -- well-formed.
   pub form : new ≡ false → (old ≡ false) ⊎ (are_well_formed ≡ false)
 
 -- The reads, from the state `a` to the state `b`, return all rows of DESK, BROKER and CUSTOMER, and
--- the keys of `kept`, all rows of KEPT, from an open database (`ShowsAllRows`), and leave its
--- contents unchanged. The flag is `old` before the keys are decoded and `new` after it. The clause
--- on the rows of a table is vacuous if the database does not define it as a desk does.
+-- the keys of `kept`, all rows of KEPT (`ShowsFourTables`). The flag is `old` before the keys are
+-- decoded and `new` after it.
 pub record ReadsOwnerTables (old new : Bool) (raw : OwnerRows) (a b : State) : Type 0 where
   pub kept : List Row
   pub shown : ShowsFourTables TheDesk KeptRows Brokers Customers raw.desk.items kept raw.brokers.items raw.customers.items a b
@@ -1506,11 +1473,8 @@ pub record ReadsRawSheets (desk : Schema) (old new : Bool) (raw : RawSheets) (a 
   pub keys : ContinuesDecoding old new (are_kept_rows_well_formed kept) (AreKeysOfRawRows raw.owners.kept.items kept)
 
 -- The reads, from the state `a` to the state `b`, return all rows of each table of the schema
--- `desk`, and none of other tables (`ShowsRowsIfInSchema`). The database was open, and its contents
--- are unchanged. If the flag `new` after the decoding is true, the flag `old` before it was true,
--- and the typed rows `sheets` are the decoded rows, but for the texts of KEPT. If `new` is false,
--- `old` was false or the rows are malformed (`are_raw_sheets_well_formed`). The clause on the rows
--- of a table is vacuous if the database does not define it as a desk does.
+-- `desk` (`ShowsAllTables`), and the typed rows `sheets` are the decoded rows, but for the texts of
+-- KEPT. The flag is `old` before the decoding and `new` after it.
 pub record ReadsAndDecodesDeskTables (desk : Schema) (old new : Bool) (sheets : Sheets) (a b : State) : Type 0 where
   pub kept : List Row
   pub raw : RawSheets

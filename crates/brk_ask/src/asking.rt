@@ -1,8 +1,7 @@
-ghost use Rattle.std.specs.Prelude.{◌≡◌, OnErr, Err, IfOk, Ok};
+ghost use Rattle.std.specs.Prelude.{◌≡◌, IfOk, Ok};
 ghost use Rattle.brk_ask.specs.Asked.{AsksQueryAndWritesView, PrintViewPost, WritesTextOrFails};
 ghost use Rattle.brk_ask.specs.Printed.{printed_view_text};
 ghost use Rattle.brk_model.specs.Ask as model;
-ghost use Rattle.brk_money.specs.declared.fault.Fault.TheVariants.{Memory};
 ghost use Rattle.brk_ref.specs.Fields.{texts_of_fields};
 ghost use Rattle.brk_view_rows.specs.Queries.{abstract_query};
 ghost use Rattle.brk_view_rows.specs.Views.{records_of_view};
@@ -15,24 +14,25 @@ use brk_io::write_all_bytes;
 use brk_money::Fault;
 use brk_report_lines::ReportFault;
 use sqlite::Alter;
-use std::alloc::Global;
+use std::alloc::{AllocError, Global};
 use std::io::Write;
 
-fn format_view(alloc: Global, query: &Query, view: &View, form: Form) -> Result<Vec<u8>, Fault>
-    ensures text { IfOk result (λ text. text.items ≡ printed_view_text form (abstract_query query.now) (records_of_view view.now)) }
-    ensures fault { OnErr result (result ≡ Err Memory) }
+fn format_view(alloc: Global, query: &Query, view: &View, form: Form) -> Result<Vec<u8>, AllocError>
+    ensures { IfOk result (λ text. text.items ≡ printed_view_text form (abstract_query query.now) (records_of_view view.now)) }
 {
     let mut records = if form.heads {
         header_records(alloc, query)?
     } else {
         Vec::new(alloc)
     };
-    let mut shown = view_fields(alloc, view)?;
+    let Ok(mut shown) = view_fields(alloc, view) else {
+        return Err(AllocError);
+    };
     records.append(&mut shown)?;
     if form.json {
-        Ok(json_line(alloc, &records)?)
+        json_line(alloc, &records)
     } else {
-        Ok(format_csv_rows(alloc, &records)?)
+        format_csv_rows(alloc, &records)
     }
 }
 
@@ -52,7 +52,7 @@ fn write_view<W: Write>(
             Ok(()) => Ok(()),
             Err(_) => Err(ReportFault::Write),
         },
-        Err(fault) => Err(ReportFault::Desk(fault)),
+        Err(_) => Err(ReportFault::Desk(Fault::Memory)),
     }
 }
 

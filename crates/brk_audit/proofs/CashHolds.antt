@@ -23,11 +23,12 @@ use Rattle.brk_audit_sums.specs.AccountTerms.{account_tax_status_in_terms}
 use Rattle.brk_audit_sums.specs.Conditions.{HasValidStatuses}
 use Rattle.brk_audit.specs.CashMoveFigures.{abstract_posted_figures}
 use Rattle.brk_audit_sums.specs.Settling.{CashRowFigures, settlement_amount_at_tax_status, is_completed_cash_trade, is_numbered_by_stamp}
-use Rattle.brk_audit_sums.specs.Settling.{posted_figures_of_trade, posted_figures_of_row, account_tax_status_or_untaxed}
+use Rattle.brk_audit_sums.specs.Settling.{posted_figures_of_trade, posted_figures_of_row}
 use Rattle.brk_audit_sums.specs.declared.account_terms.AccountTerms.{AccountTerms}
 use Rattle.brk_audit.specs.declared.cash.CashMoveFigures as code
 use Rattle.brk_audit_sums.proofs.AccountTerms.{HasTerms, same_tax_statuses}
 use Rattle.brk_audit.proofs.CashMoves.{cash_by_moves}
+use Rattle.brk_audit_sums.proofs.Sums.{account_tax_status_or_untaxed}
 
 posted_rows : (rows : List move.CashRow) → filter_map (λ r. posted_figures_of_row (abstract_cash_row r)) rows ≡ filter_map posted_figures_of_row (map abstract_cash_row rows)
 posted_rows [] = refl

@@ -36,9 +36,10 @@ use Rattle.brk_audit_theorems.proofs.Parts.{key_parts}
 use Rattle.brk_model_theorems.specs.FormParts.{SatisfiesFormParts}
 use Rattle.brk_model_theorems.proofs.FormParts.{form_parts}
 use Rattle.brk_money.specs.Spelling.{Text}
-use Rattle.brk_audit_sums.specs.Settling.{CashRowFigures, is_completed_cash_trade, is_numbered_by_stamp, posted_figures_of_trade, posted_figures_of_row, account_tax_status_or_untaxed}
+use Rattle.brk_audit_sums.specs.Settling.{CashRowFigures, is_completed_cash_trade, is_numbered_by_stamp, posted_figures_of_trade, posted_figures_of_row}
 use Rattle.brk_audit_sums.proofs.Completed.{right_rows, row_moment}
 use Rattle.brk_audit_sums.proofs.Settling.{accounts_in, cash_rows, no_rows, same_amount}
+use Rattle.brk_audit_sums.proofs.Sums.{account_tax_status_or_untaxed}
 
 -- ---- rows in turn are numbered, and rise
 

@@ -48,7 +48,7 @@ use Rattle.brk_audit_theorems.proofs.Members.{in_filter}
 use Rattle.brk_model_theorems.specs.FormParts.{SatisfiesFormParts}
 use Rattle.brk_model_theorems.proofs.FormParts.{form_parts}
 use Rattle.brk_model_theorems.proofs.Conjunctions.{parts10}
-use Rattle.brk_audit_sums.specs.Completed.{completed_trade_rows, is_completed_trade_row}
+use Rattle.brk_audit_sums.specs.Completed.{is_completed_trade_row}
 use Rattle.brk_audit.specs.Positions.{AreLotsLeftByTrades, has_same_id_or_stamp, is_before_by_position, deal_of_completed_row, has_same_position}
 use Rattle.brk_audit_sums.proofs.Completed.{completed_rows, done_moments, right_rows}
 use Rattle.brk_audit.proofs.Leaving.{any_in, at_any, at_place, leave_sums}
@@ -58,6 +58,7 @@ use Rattle.brk_audit.proofs.Stretches.{seen}
 use Rattle.brk_audit_sums.specs.Conditions.{IsWellFormedBySomeSchema}
 use Rattle.brk_audit.proofs.Expected.{same_holdings}
 use Rattle.brk_model.specs.Schemas.{Schema}
+use Rattle.brk_audit_sums.proofs.Sums.{completed_trade_rows}
 
 -- ---- completed trades have prices, and clash nowhere
 

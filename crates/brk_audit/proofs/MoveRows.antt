@@ -30,7 +30,7 @@ use Rattle.brk_audit_theorems.proofs.AdoptedBooks.{adopted_books}
 use Rattle.brk_audit_theorems.proofs.Climbs.{Climbs}
 use Rattle.brk_audit_theorems.proofs.Parts.{key_parts}
 use Rattle.brk_model_theorems.proofs.FormParts.{form_parts}
-use Rattle.brk_audit_sums.specs.Completed.{completed_trade_rows}
+use Rattle.brk_audit_sums.proofs.Sums.{completed_trade_rows}
 use Rattle.brk_audit.specs.Positions.{AreLotChangesOfTrades, moves, is_before_by_position, deal_of_completed_row, has_same_position, untouched}
 use Rattle.brk_audit_sums.proofs.Completed.{completed_rows}
 use Rattle.brk_audit.proofs.Leaving.{AreDealt, deals_among, own_run}

@@ -23,8 +23,8 @@ use Rattle.brk_audit_sums.specs.AccountTerms.{account_broker_in_terms, account_t
 use Rattle.brk_audit_sums.specs.Completed.{is_completed_trade_row, is_pending_trade_row}
 use Rattle.brk_audit_sums.specs.Conditions.{HasWellFormedRows, HasValidStatuses}
 use Rattle.brk_audit_sums.specs.Settling.{settlement_amount_at_tax_status, settlement_figures_of_row, settlement_figures_of_trade, is_completed_cash_trade}
-use Rattle.brk_audit_sums.specs.Settling.{cash_transaction_figures_of_trade, cash_transaction_figures_of_row, request_row_of_trade, account_tax_status_or_untaxed}
-use Rattle.brk_audit_sums.specs.Settling.{account_broker_or_zero}
+use Rattle.brk_audit_sums.specs.Settling.{cash_transaction_figures_of_trade, cash_transaction_figures_of_row, request_row_of_trade}
+use Rattle.brk_audit_sums.proofs.Sums.{account_tax_status_or_untaxed, account_broker_or_zero}
 use Rattle.brk_audit_sums.specs.declared.account_terms.AccountTerms.{AccountTerms}
 use Rattle.brk_audit_sums.proofs.AccountTerms.{HasTerms, same_brokers, same_tax_statuses}
 use Rattle.brk_audit_sums.proofs.Settling.{cash_by_rows, requests_by_rows, settlements_by_rows}

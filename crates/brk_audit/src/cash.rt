@@ -5,9 +5,8 @@
 
 ghost use Rattle.std.specs.List.{filter_map};
 ghost use Rattle.brk_audit.specs.CashMoveFigures.{abstract_posted_figures};
-ghost use Rattle.std.specs.Prelude.{◌≡◌, ◌↔◌, ◌==◌, ◌&&◌, map, filter, nat_le, option_map, IfErr, IfOk, IsTrue, MatchOption};
+ghost use Rattle.std.specs.Prelude.{◌≡◌, ◌↔◌, ◌==◌, ◌&&◌, map, filter, nat_le, option_map, IfOk, IsTrue, MatchOption};
 ghost use Rattle.brk_money.specs.declared.fault.Condition.TheVariants.{Cash, Form};
-ghost use Rattle.brk_money.specs.declared.fault.Fault.TheVariants.{Memory};
 ghost use Rattle.brk_model.specs.Audit.{ConditionHolds};
 ghost use Rattle.brk_audit_sums.specs.AccountTerms.{account_tax_status_in_terms};
 ghost use Rattle.brk_audit_sums.specs.Conditions.{HasValidStatuses};
@@ -23,10 +22,10 @@ use brk_audit_sums::account_terms::{AccountTerms, tax_status_of, terms_by_id};
 use brk_audit_sums::amounts::settling_amount;
 use brk_audit_sums::completion::is_completed;
 use brk_audit_sums::summaries::all_three;
-use brk_money::{Cents, Fault, Id, Stamp, TaxStatus};
+use brk_money::{Cents, Id, Stamp, TaxStatus};
 use brk_ref::{CashRow, OldCashRow, TradeRow};
 use brk_trade_rows::{Schema, Sheets};
-use std::alloc::Global;
+use std::alloc::{AllocError, Global};
 use std::collections::BTreeMap;
 
 fn is_row_of_trade(cash: &OldCashRow, trade: &TradeRow, tax_status: TaxStatus) -> bool
@@ -115,9 +114,8 @@ fn figures_of_row(row: &CashRow) -> Option<CashMoveFigures>
     })
 }
 
-fn figures_of_rows(alloc: Global, moves: &[CashRow]) -> Result<Vec<CashMoveFigures>, Fault>
+fn figures_of_rows(alloc: Global, moves: &[CashRow]) -> Result<Vec<CashMoveFigures>, AllocError>
     ensures all { IfOk result (λ all. map abstract_posted_figures all.items ≡ filter_map (λ r. posted_figures_of_row (abstract_cash_row r)) moves.now) }
-    ensures fault { IfErr result (λ fault. fault ≡ Memory) }
 {
     let mut all = Vec::new(alloc);
     for row in moves {
@@ -203,11 +201,10 @@ fn are_rows_numbered(moves: &[CashRow]) -> bool
     true
 }
 
-pub(crate) fn meets_cash(alloc: Global, schema: Schema, sheets: &Sheets) -> Result<bool, Fault>
+pub(crate) fn meets_cash(alloc: Global, schema: Schema, sheets: &Sheets) -> Result<bool, AllocError>
     requires form { ConditionHolds (abstract_schema schema) Form (abstract_sheets sheets.now) }
     requires status { HasValidStatuses sheets.now }
-    ensures value { IfOk result (λ holds. IsTrue holds ↔ ConditionHolds (abstract_schema schema) Cash (abstract_sheets sheets.now)) }
-    ensures fault { IfErr result (λ fault. fault ≡ Memory) }
+    ensures { IfOk result (λ holds. IsTrue holds ↔ ConditionHolds (abstract_schema schema) Cash (abstract_sheets sheets.now)) }
 {
     let terms = terms_by_id(alloc, &sheets.accounts)?;
     if !schema.has_cash_move_table() {

@@ -1,7 +1,7 @@
 //! The condition `History`: the rows of HOLDING_HISTORY are exactly the lot changes of the
 //! completed trades.
 
-ghost use Rattle.std.specs.Prelude.{◌≡◌, ◌++◌, ◌↔◌, IfErr, IfOk, IsPermutation, IsSome, IsTrue, OnOk, [], map};
+ghost use Rattle.std.specs.Prelude.{◌≡◌, ◌++◌, ◌↔◌, IfOk, IsPermutation, IsSome, IsTrue, OnOk, [], map};
 ghost use Rattle.std.specs.List.{AllByRecursion, IsDistinct};
 ghost use Rattle.std.specs.List.Sorted.{IsSortedBy};
 ghost use Rattle.std.specs.Ordering.{is_lt};
@@ -15,23 +15,24 @@ ghost use Rattle.brk_model.specs.Audit.{ConditionHolds};
 ghost use Rattle.brk_model.specs.Schemas.{Schema};
 ghost use Rattle.brk_model.specs.Keys.{holding_history_key, is_row_key_less};
 ghost use Rattle.brk_money.specs.declared.fault.Condition.TheVariants.{History};
-ghost use Rattle.brk_money.specs.declared.fault.Fault.TheVariants.{Memory};
 
 use crate::positions::{deals_of_trades, run_length, sorted_trades};
 use brk_lots::{DealTouch, Position};
-use brk_money::Fault;
 use brk_ref::{LotChange, TradeRow};
 use brk_trade_rows::Sheets;
-use std::alloc::Global;
+use std::alloc::{AllocError, Global};
 use std::cmp::Ordering;
 
 // `run` is all completed trades of one position, in order.
-fn append_run_rows(alloc: Global, rows: &mut Vec<DealTouch>, run: &[&TradeRow]) -> Result<(), Fault>
+fn append_run_rows(
+    alloc: Global,
+    rows: &mut Vec<DealTouch>,
+    run: &[&TradeRow],
+) -> Result<(), AllocError>
     requires priced { AllByRecursion (λ row. IsSome row.now.price) run.now }
     requires deals { AreDistinctAscendingDeals (map (λ row. deal_of_completed_row (abstract_trade_row row.now)) run.now) }
     ensures added { OnOk result (map abstract_deal_touch rows.new.items
         ≡ map abstract_deal_touch rows.old.items ++ lot_changes_of_deals (map (λ row. deal_of_completed_row (abstract_trade_row row.now)) run.now) []) }
-    ensures fault { IfErr result (λ fault. fault ≡ Memory) }
 {
     let deals = deals_of_trades(alloc, run)?;
     let _ = Position::replay_changes(alloc, &deals, rows)?;
@@ -39,15 +40,14 @@ fn append_run_rows(alloc: Global, rows: &mut Vec<DealTouch>, run: &[&TradeRow]) 
 }
 
 // Executes the trades of each position from no lots.
-fn all_lot_changes(alloc: Global, done: &[&TradeRow]) -> Result<Vec<DealTouch>, Fault>
+fn all_lot_changes(alloc: Global, done: &[&TradeRow]) -> Result<Vec<DealTouch>, AllocError>
     // The trades are sorted, no two have the same id or stamp, and each has a price.
     requires order { IsSortedBy (λ one other. is_before_by_position (abstract_trade_row one.now) (abstract_trade_row other.now)) done.now }
     requires apart { IsDistinct has_same_id_or_stamp (map (λ row. abstract_trade_row row.now) done.now) }
     requires priced { AllByRecursion (λ row. IsSome row.now.price) done.now }
 
     // At `Ok` the lot changes of exactly these trades; the only fault is `Memory`.
-    ensures changes { IfOk result (λ rows. AreLotChangesOfTrades (map (λ row. abstract_trade_row row.now) done.now) (map abstract_deal_touch rows.items)) }
-    ensures fault { IfErr result (λ fault. fault ≡ Memory) }
+    ensures { IfOk result (λ rows. AreLotChangesOfTrades (map (λ row. abstract_trade_row row.now) done.now) (map abstract_deal_touch rows.items)) }
 {
     let mut rows = Vec::new(alloc);
     let mut begin = 0;
@@ -98,11 +98,10 @@ fn touches_equal(touches: &[DealTouch], rows: &[LotChange]) -> bool
     true
 }
 
-pub(crate) fn meets_history(alloc: Global, sheets: &Sheets) -> Result<bool, Fault>
+pub(crate) fn meets_history(alloc: Global, sheets: &Sheets) -> Result<bool, AllocError>
     requires form { HasWellFormedRows sheets.now }
     requires status { HasValidStatuses sheets.now }
-    ensures value { IfOk result (λ holds. (schema : Schema) → IsTrue holds ↔ ConditionHolds schema History (abstract_sheets sheets.now)) }
-    ensures fault { IfErr result (λ fault. fault ≡ Memory) }
+    ensures { IfOk result (λ holds. (schema : Schema) → IsTrue holds ↔ ConditionHolds schema History (abstract_sheets sheets.now)) }
 {
     let done = sorted_trades(alloc, &sheets.trades)?;
     let mut rows = all_lot_changes(alloc, &done)?;

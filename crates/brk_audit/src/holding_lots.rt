@@ -1,7 +1,7 @@
 //! The condition `Lots`: the rows of HOLDING are exactly the lots that remain after the completed
 //! trades.
 
-ghost use Rattle.std.specs.Prelude.{◌≡◌, ◌++◌, ◌↔◌, IfErr, IfOk, IsSome, IsTrue, OnOk, map};
+ghost use Rattle.std.specs.Prelude.{◌≡◌, ◌++◌, ◌↔◌, IfOk, IsSome, IsTrue, OnOk, map};
 ghost use Rattle.std.specs.List.{AllByRecursion, IsDistinct};
 ghost use Rattle.std.specs.List.Sorted.{IsSortedBy};
 ghost use Rattle.brk_audit_sums.specs.Conditions.{HasWellFormedRows, HasValidStatuses};
@@ -12,19 +12,16 @@ ghost use Rattle.brk_lots.specs.Lots.{abstract_lot};
 ghost use Rattle.brk_model.specs.Audit.{ConditionHolds};
 ghost use Rattle.brk_model.specs.Schemas.{Schema};
 ghost use Rattle.brk_money.specs.declared.fault.Condition.TheVariants.{Lots};
-ghost use Rattle.brk_money.specs.declared.fault.Fault.TheVariants.{Memory};
 
 use crate::positions::{position_after, run_length, sorted_trades};
 use brk_lots::Lot;
-use brk_money::Fault;
 use brk_ref::{HoldingRow, TradeRow};
 use brk_trade_rows::Sheets;
-use std::alloc::Global;
+use std::alloc::{AllocError, Global};
 
-fn append_lots(held: &mut Vec<HoldingRow>, trade: &TradeRow, lots: &[Lot]) -> Result<(), Fault>
-    ensures added { OnOk result (map abstract_holding_row held.new.items
+fn append_lots(held: &mut Vec<HoldingRow>, trade: &TradeRow, lots: &[Lot]) -> Result<(), AllocError>
+    ensures { OnOk result (map abstract_holding_row held.new.items
         ≡ map abstract_holding_row held.old.items ++ map (holding_row_in_position_of_trade (abstract_trade_row trade.now)) (map abstract_lot lots.now)) }
-    ensures fault { IfErr result (λ fault. fault ≡ Memory) }
 {
     for lot in lots {
         held.push(HoldingRow {
@@ -40,15 +37,14 @@ fn append_lots(held: &mut Vec<HoldingRow>, trade: &TradeRow, lots: &[Lot]) -> Re
 }
 
 // Executes the trades of each position from no lots.
-fn final_lots(alloc: Global, done: &[&TradeRow]) -> Result<Vec<HoldingRow>, Fault>
+fn final_lots(alloc: Global, done: &[&TradeRow]) -> Result<Vec<HoldingRow>, AllocError>
     // The trades are sorted, no two have the same id or stamp, and each has a price.
     requires order { IsSortedBy (λ one other. is_before_by_position (abstract_trade_row one.now) (abstract_trade_row other.now)) done.now }
     requires apart { IsDistinct has_same_id_or_stamp (map (λ row. abstract_trade_row row.now) done.now) }
     requires priced { AllByRecursion (λ row. IsSome row.now.price) done.now }
 
     // At `Ok` the lots that remain after exactly these trades; the only fault is `Memory`.
-    ensures left { IfOk result (λ held. AreLotsLeftByTrades (map (λ row. abstract_trade_row row.now) done.now) (map abstract_holding_row held.items)) }
-    ensures fault { IfErr result (λ fault. fault ≡ Memory) }
+    ensures { IfOk result (λ held. AreLotsLeftByTrades (map (λ row. abstract_trade_row row.now) done.now) (map abstract_holding_row held.items)) }
 {
     let mut held = Vec::new(alloc);
     let mut begin = 0;
@@ -87,11 +83,10 @@ fn holdings_equal(rows: &[HoldingRow], others: &[HoldingRow]) -> bool
     true
 }
 
-pub(crate) fn meets_lots(alloc: Global, sheets: &Sheets) -> Result<bool, Fault>
+pub(crate) fn meets_lots(alloc: Global, sheets: &Sheets) -> Result<bool, AllocError>
     requires form { HasWellFormedRows sheets.now }
     requires status { HasValidStatuses sheets.now }
-    ensures value { IfOk result (λ holds. (schema : Schema) → IsTrue holds ↔ ConditionHolds schema Lots (abstract_sheets sheets.now)) }
-    ensures fault { IfErr result (λ fault. fault ≡ Memory) }
+    ensures { IfOk result (λ holds. (schema : Schema) → IsTrue holds ↔ ConditionHolds schema Lots (abstract_sheets sheets.now)) }
 {
     let done = sorted_trades(alloc, &sheets.trades)?;
     let mut held = final_lots(alloc, &done)?;

@@ -1,6 +1,6 @@
 //! The completed trades, position by position; a position is an account with a security.
 
-ghost use Rattle.std.specs.Prelude.{◌≡◌, ◌≤◌, IfErr, IfOk, IsPermutation, IsSome, drop, false, filter, length, map, take, true};
+ghost use Rattle.std.specs.Prelude.{◌≡◌, ◌≤◌, IfOk, IsPermutation, IsSome, drop, false, filter, length, map, take, true};
 ghost use Rattle.std.specs.List.{AllByRecursion};
 ghost use Rattle.std.specs.List.Sorted.{IsSortedBy};
 ghost use Rattle.std.specs.Ordering.{is_lt};
@@ -10,18 +10,16 @@ ghost use Rattle.brk_ref.specs.Rows.{abstract_trade_row};
 ghost use Rattle.brk_lots.specs.Deals.{AreDistinctAscendingDeals};
 ghost use Rattle.brk_lots.specs.Lots.{abstract_deal, shares_of_lots};
 ghost use Rattle.brk_model.specs.Shares.{replay};
-ghost use Rattle.brk_money.specs.declared.fault.Fault.TheVariants.{Memory};
 
 use brk_lots::{Deal, Position};
-use brk_money::{Fault, Status};
+use brk_money::Status;
 use brk_ref::TradeRow;
-use std::alloc::Global;
+use std::alloc::{AllocError, Global};
 use std::cmp::Ordering;
 
-fn collect_done(alloc: Global, trades: &[TradeRow]) -> Result<Vec<&TradeRow>, Fault>
-    ensures done { IfOk result (λ done. map (λ row. abstract_trade_row row.now) done.items
+fn collect_done(alloc: Global, trades: &[TradeRow]) -> Result<Vec<&TradeRow>, AllocError>
+    ensures { IfOk result (λ done. map (λ row. abstract_trade_row row.now) done.items
         ≡ filter is_completed_trade_row (map abstract_trade_row trades.now)) }
-    ensures fault { IfErr result (λ fault. fault ≡ Memory) }
 {
     let mut done = Vec::new(alloc);
     for row in trades {
@@ -53,12 +51,14 @@ fn sort_positions(done: &mut Vec<&TradeRow>)
 }
 
 /// Sorts by account, then by symbol, then by stamp.
-pub(crate) fn sorted_trades(alloc: Global, trades: &[TradeRow]) -> Result<Vec<&TradeRow>, Fault>
+pub(crate) fn sorted_trades(
+    alloc: Global,
+    trades: &[TradeRow],
+) -> Result<Vec<&TradeRow>, AllocError>
     ensures done { IfOk result (λ done.
         IsPermutation (filter is_completed_trade_row (map abstract_trade_row trades.now)) (map (λ row. abstract_trade_row row.now) done.items)) }
     ensures order { IfOk result (λ done.
         IsSortedBy (λ one other. is_before_by_position (abstract_trade_row one.now) (abstract_trade_row other.now)) done.items) }
-    ensures fault { IfErr result (λ fault. fault ≡ Memory) }
 {
     let mut done = collect_done(alloc, trades)?;
     sort_positions(&mut done);
@@ -99,10 +99,9 @@ pub(crate) fn completed_deal(row: &TradeRow) -> Deal
     }
 }
 
-pub(crate) fn deals_of_trades(alloc: Global, run: &[&TradeRow]) -> Result<Vec<Deal>, Fault>
+pub(crate) fn deals_of_trades(alloc: Global, run: &[&TradeRow]) -> Result<Vec<Deal>, AllocError>
     requires { AllByRecursion (λ row. IsSome row.now.price) run.now }
-    ensures deals { IfOk result (λ deals. map abstract_deal deals.items ≡ map (λ row. deal_of_completed_row (abstract_trade_row row.now)) run.now) }
-    ensures fault { IfErr result (λ fault. fault ≡ Memory) }
+    ensures { IfOk result (λ deals. map abstract_deal deals.items ≡ map (λ row. deal_of_completed_row (abstract_trade_row row.now)) run.now) }
 {
     let mut deals = Vec::with_capacity(alloc, run.len())?;
     for row in run {
@@ -112,12 +111,14 @@ pub(crate) fn deals_of_trades(alloc: Global, run: &[&TradeRow]) -> Result<Vec<De
 }
 
 /// Executes the trades in order from no lots.
-pub(crate) fn position_after(alloc: Global, run: &[&TradeRow]) -> Result<Position, Fault>
+pub(crate) fn position_after(alloc: Global, run: &[&TradeRow]) -> Result<Position, AllocError>
     requires priced { AllByRecursion (λ row. IsSome row.now.price) run.now }
     requires deals { AreDistinctAscendingDeals (map (λ row. deal_of_completed_row (abstract_trade_row row.now)) run.now) }
     ensures shares { IfOk result (λ position. shares_of_lots position ≡ replay (map (λ row. deal_of_completed_row (abstract_trade_row row.now)) run.now)) }
-    ensures fault { IfErr result (λ fault. fault ≡ Memory) }
 {
     let deals = deals_of_trades(alloc, run)?;
-    Position::replay(alloc, &deals)
+    match Position::replay(alloc, &deals) {
+        Ok(position) => Ok(position),
+        Err(_) => Err(AllocError),
+    }
 }

@@ -1,10 +1,9 @@
 //! The condition `Requests`: the rows of TRADE_REQUEST are exactly the requests of the pending
 //! trades.
 
-ghost use Rattle.std.specs.Prelude.{◌≡◌, ◌↔◌, map, filter, IfErr, IfOk, IsTrue, MatchOption};
+ghost use Rattle.std.specs.Prelude.{◌≡◌, ◌↔◌, map, filter, IfOk, IsTrue, MatchOption};
 ghost use Rattle.brk_money.specs.Kinds.{is_same_trade_status, is_same_trade_type};
 ghost use Rattle.brk_money.specs.declared.fault.Condition.TheVariants as condition;
-ghost use Rattle.brk_money.specs.declared.fault.Fault.TheVariants.{Memory};
 ghost use Rattle.brk_money.specs.declared.status.Status.TheVariants.{Pending};
 ghost use Rattle.brk_model.specs.Audit.{ConditionHolds};
 ghost use Rattle.brk_model.specs.Schemas.{Schema};
@@ -16,10 +15,10 @@ ghost use Rattle.brk_ref.specs.Rows.{abstract_request_row, abstract_trade_row};
 ghost use Rattle.brk_trade_rows.specs.Sheets.{abstract_sheets};
 
 use brk_audit_sums::account_terms::{AccountTerms, broker_of, terms_by_id};
-use brk_money::{Fault, Status, TradeType};
+use brk_money::{Status, TradeType};
 use brk_ref::{RequestRow, TradeRow};
 use brk_trade_rows::Sheets;
-use std::alloc::Global;
+use std::alloc::{AllocError, Global};
 use std::collections::BTreeMap;
 
 fn types_equal(kind: TradeType, other: TradeType) -> bool
@@ -97,11 +96,10 @@ fn requests_match_trades(
     rest.is_empty()
 }
 
-pub(crate) fn meets_requests(alloc: Global, sheets: &Sheets) -> Result<bool, Fault>
+pub(crate) fn meets_requests(alloc: Global, sheets: &Sheets) -> Result<bool, AllocError>
     requires form { HasWellFormedRows sheets.now }
     requires status { HasValidStatuses sheets.now }
-    ensures value { IfOk result (λ holds. (schema : Schema) → IsTrue holds ↔ ConditionHolds schema condition.Requests (abstract_sheets sheets.now)) }
-    ensures fault { IfErr result (λ fault. fault ≡ Memory) }
+    ensures { IfOk result (λ holds. (schema : Schema) → IsTrue holds ↔ ConditionHolds schema condition.Requests (abstract_sheets sheets.now)) }
 {
     let terms = terms_by_id(alloc, &sheets.accounts)?;
     Ok(requests_match_trades(&sheets.requests, &sheets.trades, &terms))

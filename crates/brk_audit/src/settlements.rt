@@ -2,9 +2,8 @@
 //! due day and its settlement amount in cents. Settlement texts are not compared: `Form` checks
 //! them. `rule` is the first day of one-day settlement, if it is set.
 
-ghost use Rattle.std.specs.Prelude.{◌≡◌, ◌↔◌, ◌+◌, map, filter, IfErr, IfOk, IsTrue, MatchOption};
+ghost use Rattle.std.specs.Prelude.{◌≡◌, ◌↔◌, ◌+◌, map, filter, IfOk, IsTrue, MatchOption};
 ghost use Rattle.brk_money.specs.declared.fault.Condition.TheVariants.{Settlement};
-ghost use Rattle.brk_money.specs.declared.fault.Fault.TheVariants.{Memory};
 ghost use Rattle.brk_model.specs.Audit.{ConditionHolds};
 ghost use Rattle.brk_model.specs.Schemas.{Schema};
 ghost use Rattle.brk_model.specs.Derived.{due_day_of_completion_stamp};
@@ -19,10 +18,10 @@ ghost use Rattle.brk_trade_rows.specs.Sheets.{abstract_sheets};
 use brk_audit_sums::account_terms::{AccountTerms, tax_status_of, terms_by_id};
 use brk_audit_sums::amounts::settling_amount;
 use brk_audit_sums::completion::is_completed;
-use brk_money::{Day, Fault, Stamp, TaxStatus, day_of};
+use brk_money::{Day, Stamp, TaxStatus, day_of};
 use brk_ref::{SettlementRow, TradeRow};
 use brk_trade_rows::{Sheets, days_to_settlement};
-use std::alloc::Global;
+use std::alloc::{AllocError, Global};
 use std::collections::BTreeMap;
 
 fn is_due_day(day: Day, rule: Option<Day>, stamp: Stamp) -> bool
@@ -96,11 +95,10 @@ fn settlements_match_trades(
     rest.is_empty()
 }
 
-pub(crate) fn meets_settlement(alloc: Global, sheets: &Sheets) -> Result<bool, Fault>
+pub(crate) fn meets_settlement(alloc: Global, sheets: &Sheets) -> Result<bool, AllocError>
     requires form { HasWellFormedRows sheets.now }
     requires status { HasValidStatuses sheets.now }
-    ensures value { IfOk result (λ holds. (schema : Schema) → IsTrue holds ↔ ConditionHolds schema Settlement (abstract_sheets sheets.now)) }
-    ensures fault { IfErr result (λ fault. fault ≡ Memory) }
+    ensures { IfOk result (λ holds. (schema : Schema) → IsTrue holds ↔ ConditionHolds schema Settlement (abstract_sheets sheets.now)) }
 {
     let terms = terms_by_id(alloc, &sheets.accounts)?;
     Ok(settlements_match_trades(&sheets.settlements, &sheets.trades, &sheets.rule, &terms))

@@ -2,13 +2,12 @@
 //! stamps, the trade's row has the status and the stamp of the last change, and no two completions,
 //! deposits or withdrawals have the same stamp.
 
-ghost use Rattle.std.specs.Prelude.{◌≡◌, ◌↔◌, ◌==◌, ℕ, ◌&&◌, ◌||◌, not, is_none, map, ◌++◌, nat_lt, IfErr, IfOk, IsTrue, OnOk};
+ghost use Rattle.std.specs.Prelude.{◌≡◌, ◌↔◌, ◌==◌, ℕ, ◌&&◌, ◌||◌, not, is_none, map, ◌++◌, nat_lt, IfOk, IsTrue, OnOk};
 ghost use Rattle.std.specs.List.{prefix_len};
 ghost use Rattle.std.specs.Ordering.{nat_cmp};
 ghost use Rattle.std.specs.BTreeSet.{contains};
 ghost use Rattle.brk_money.specs.Kinds.{is_same_trade_status};
 ghost use Rattle.brk_money.specs.declared.fault.Condition.TheVariants as condition;
-ghost use Rattle.brk_money.specs.declared.fault.Fault.TheVariants.{Memory};
 ghost use Rattle.brk_money.specs.declared.status.Status.TheVariants.{Completed};
 ghost use Rattle.brk_model.specs.Audit.{ConditionHolds};
 ghost use Rattle.brk_model.specs.Schemas.{Schema};
@@ -19,10 +18,10 @@ ghost use Rattle.brk_ref.specs.Rows.{abstract_history_row, abstract_cash_row, ab
 ghost use Rattle.brk_trade_rows.specs.Sheets.{abstract_sheets};
 
 use brk_audit_sums::completion::is_completed;
-use brk_money::{Fault, Id, Stamp, Status};
+use brk_money::{Id, Stamp, Status};
 use brk_ref::{CashRow, HistoryRow, TradeRow};
 use brk_trade_rows::Sheets;
-use std::alloc::Global;
+use std::alloc::{AllocError, Global};
 use std::collections::BTreeSet;
 
 pub(crate) fn stamp_in_millis(stamp: Stamp) -> u64
@@ -114,11 +113,10 @@ fn all_histories_are_valid(trades: &[TradeRow], history: &[HistoryRow]) -> bool
 }
 
 // Returns false at a completion whose stamp was seen before.
-fn add_completion(seen: &mut BTreeSet<u64>, row: &HistoryRow) -> Result<bool, Fault>
+fn add_completion(seen: &mut BTreeSet<u64>, row: &HistoryRow) -> Result<bool, AllocError>
     ensures new { IfOk result (λ new. new ≡ not (is_same_trade_status row.now.status Completed && contains nat_cmp seen.old row.now.stamp)) }
     ensures seen { OnOk result ((q : ℕ)
         → contains nat_cmp seen.new q ≡ contains nat_cmp seen.old q || (is_same_trade_status row.now.status Completed && (row.now.stamp == q))) }
-    ensures fault { IfErr result (λ fault. fault ≡ Memory) }
 {
     if !is_completed(row.status) {
         return Ok(true);
@@ -128,10 +126,9 @@ fn add_completion(seen: &mut BTreeSet<u64>, row: &HistoryRow) -> Result<bool, Fa
 }
 
 // Returns false at a deposit or a withdrawal whose stamp was seen before.
-fn add_movement(seen: &mut BTreeSet<u64>, row: &CashRow) -> Result<bool, Fault>
+fn add_movement(seen: &mut BTreeSet<u64>, row: &CashRow) -> Result<bool, AllocError>
     ensures new { IfOk result (λ new. new ≡ not (is_none row.now.trade && contains nat_cmp seen.old row.now.stamp)) }
     ensures seen { OnOk result ((q : ℕ) → contains nat_cmp seen.new q ≡ contains nat_cmp seen.old q || (is_none row.now.trade && (row.now.stamp == q))) }
-    ensures fault { IfErr result (λ fault. fault ≡ Memory) }
 {
     if row.trade.is_some() {
         return Ok(true);
@@ -140,11 +137,14 @@ fn add_movement(seen: &mut BTreeSet<u64>, row: &CashRow) -> Result<bool, Fault>
     Ok(new)
 }
 
-fn stamps_distinct(alloc: Global, history: &[HistoryRow], moves: &[CashRow]) -> Result<bool, Fault>
-    ensures value { IfOk result (λ apart. apart
+fn stamps_distinct(
+    alloc: Global,
+    history: &[HistoryRow],
+    moves: &[CashRow],
+) -> Result<bool, AllocError>
+    ensures { IfOk result (λ apart. apart
         ≡ all_distinct (spec.completion_stamps_of_history (map abstract_history_row history.now)
         ++ spec.movement_stamps_of_cash_rows (map abstract_cash_row moves.now))) }
-    ensures fault { IfErr result (λ fault. fault ≡ Memory) }
 {
     let mut seen = BTreeSet::new(alloc);
     for row in history {
@@ -160,10 +160,9 @@ fn stamps_distinct(alloc: Global, history: &[HistoryRow], moves: &[CashRow]) -> 
     Ok(true)
 }
 
-pub(crate) fn meets_status(alloc: Global, sheets: &Sheets) -> Result<bool, Fault>
+pub(crate) fn meets_status(alloc: Global, sheets: &Sheets) -> Result<bool, AllocError>
     requires form { HasWellFormedRows sheets.now }
-    ensures value { IfOk result (λ holds. (schema : Schema) → IsTrue holds ↔ ConditionHolds schema condition.Status (abstract_sheets sheets.now)) }
-    ensures fault { IfErr result (λ fault. fault ≡ Memory) }
+    ensures { IfOk result (λ holds. (schema : Schema) → IsTrue holds ↔ ConditionHolds schema condition.Status (abstract_sheets sheets.now)) }
 {
     if !all_histories_are_valid(&sheets.trades, &sheets.history) {
         return Ok(false);

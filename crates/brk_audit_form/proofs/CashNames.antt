@@ -7,8 +7,14 @@ use Rattle.brk_money.specs.Spelling.{Text}
 use Rattle.brk_money.specs.Kinds.{trade_type_name}
 use Rattle.brk_model.specs.Tables.{Tables, TradeRow, SecurityRow, LastTradeRow}
 use Rattle.brk_model.specs.Adopted.{base_of_tables, security_of_row, security_of_rows, zero_last_trade_row, trade_of_row}
-use Rattle.brk_model.specs.Results.{cash_row_name}
-use Rattle.brk_audit_form.specs.Names.{cash_text_of_trade_in_tables}
+use Rattle.brk_model.specs.Results.{cash_row_name, cash_row_name_from_parts}
+use Rattle.brk_audit_form.specs.Names.{security_name_or_empty}
+
+-- The cash text of the trade of the row `row`: the name of its type, a space, its quantity in
+-- decimal digits, `words` (such as " shares of "), and the name of its security in the tables,
+-- which is empty if the security does not exist.
+abbrev pub cash_text_of_trade_in_tables : Tables → Text → TradeRow → Text
+cash_text_of_trade_in_tables t words row = cash_row_name_from_parts words row.kind row.qty (security_name_or_empty t row.symbol)
 
 symbol_same : (t : Tables) (s : SecurityRow) → (security_of_row t s).symbol ≡ s.symbol
 symbol_same t s = by_last (find (λ l. bytes_eq l.symbol s.symbol) t.last_trades)

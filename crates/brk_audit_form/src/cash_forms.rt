@@ -1,9 +1,8 @@
 //! The checks of cash rows: their texts, their stamps and their amounts in cents.
 
-ghost use Rattle.std.specs.Prelude.{◌≡◌, ◌∷◌, ◌++◌, IfErr, IfOk, OnOk, decimal, false, map, string_bytes};
+ghost use Rattle.std.specs.Prelude.{◌≡◌, ◌∷◌, ◌++◌, IfOk, OnOk, decimal, false, map, string_bytes};
 ghost use Rattle.std.specs.List.{list_all};
 ghost use Rattle.std.specs.Option.{option_map_or};
-ghost use Rattle.brk_money.specs.declared.fault.Fault.TheVariants.{Memory};
 ghost use Rattle.brk_model.specs.Form as form;
 ghost use Rattle.brk_model.specs.Joins.{trade_row_with_id};
 ghost use Rattle.brk_model.specs.Results.{cash_row_name_from_parts};
@@ -14,7 +13,7 @@ ghost use Rattle.brk_audit_form.specs.Names.{security_name_or_empty};
 
 use crate::limits::{is_valid_cents, is_valid_move_id, is_valid_stamp};
 use crate::references::{find_security, find_trade, has_account};
-use brk_money::{Cents, Fault, Id, Qty};
+use brk_money::{Cents, Id, Qty};
 use brk_ref::{CashRow, OldCashRow, Symbol, TradeRow};
 use brk_trade_rows::Sheets;
 use std::alloc::{AllocError, Global};
@@ -41,9 +40,8 @@ fn text_of_trade(
     trade: &TradeRow,
     words: &str,
     security: &str,
-) -> Result<String, Fault>
+) -> Result<String, AllocError>
     ensures name { IfOk result (λ name. string_bytes name ≡ cash_row_name_from_parts words.now trade.now.kind trade.now.qty security.now) }
-    ensures fault { IfErr result (λ fault. fault ≡ Memory) }
 {
     let mut name = String::from_str(alloc, trade.kind.name())?;
     push_quantity(&mut name, trade.qty, words)?;
@@ -57,10 +55,9 @@ fn is_trade_text(
     sheets: &Sheets,
     trade: &TradeRow,
     name: &str,
-) -> Result<bool, Fault>
+) -> Result<bool, AllocError>
     requires { HasSortedKeys sheets.now }
-    ensures value { IfOk result (λ holds. holds ≡ form.is_cash_row_name_of_trade (abstract_sheets sheets.now) name.now (abstract_trade_row trade.now)) }
-    ensures fault { IfErr result (λ fault. fault ≡ Memory) }
+    ensures { IfOk result (λ holds. holds ≡ form.is_cash_row_name_of_trade (abstract_sheets sheets.now) name.now (abstract_trade_row trade.now)) }
 {
     let security = security_name(sheets, &trade.symbol);
     let first = text_of_trade(alloc, trade, " shares of ", security)?;
@@ -71,11 +68,10 @@ fn is_trade_text(
     Ok(name == second.as_str())
 }
 
-fn is_text_of_id(alloc: Global, sheets: &Sheets, id: Id, name: &str) -> Result<bool, Fault>
+fn is_text_of_id(alloc: Global, sheets: &Sheets, id: Id, name: &str) -> Result<bool, AllocError>
     requires { HasSortedKeys sheets.now }
     ensures value { IfOk result (λ holds. holds
         ≡ option_map_or (form.is_cash_row_name_of_trade (abstract_sheets sheets.now) name.now) (trade_row_with_id (abstract_sheets sheets.now) id) false) }
-    ensures fault { IfErr result (λ fault. fault ≡ Memory) }
 {
     let Some(trade) = find_trade(sheets, id) else {
         return Ok(false);
@@ -83,10 +79,13 @@ fn is_text_of_id(alloc: Global, sheets: &Sheets, id: Id, name: &str) -> Result<b
     is_trade_text(alloc, sheets, trade, name)
 }
 
-fn is_valid_old_cash_row(alloc: Global, sheets: &Sheets, row: &OldCashRow) -> Result<bool, Fault>
+fn is_valid_old_cash_row(
+    alloc: Global,
+    sheets: &Sheets,
+    row: &OldCashRow,
+) -> Result<bool, AllocError>
     requires { HasSortedKeys sheets.now }
     ensures value { IfOk result (λ holds. holds ≡ form.is_well_formed_cash_transaction_row (abstract_sheets sheets.now) (abstract_old_cash_row row.now)) }
-    ensures fault { IfErr result (λ fault. fault ≡ Memory) }
 {
     let is_named = is_text_of_id(alloc, sheets, row.trade, row.name.as_str())?;
     Ok(is_named && is_valid_stamp(sheets, row.stamp) && is_valid_cents(row.amount))
@@ -99,12 +98,11 @@ fn is_movement_text(name: &str, amount: Cents) -> bool
 }
 
 // A row without a trade is a deposit or a withdrawal.
-fn has_valid_text(alloc: Global, sheets: &Sheets, row: &CashRow) -> Result<bool, Fault>
+fn has_valid_text(alloc: Global, sheets: &Sheets, row: &CashRow) -> Result<bool, AllocError>
     requires { HasSortedKeys sheets.now }
     ensures value { IfOk result (λ holds. holds
         ≡ option_map_or (form.has_cash_row_name_of_trade (abstract_sheets sheets.now) (abstract_cash_row row.now)) row.now.trade
         (form.is_movement_name_and_amount (string_bytes row.now.name) row.now.amount)) }
-    ensures fault { IfErr result (λ fault. fault ≡ Memory) }
 {
     match row.trade {
         Some(trade) => is_text_of_id(alloc, sheets, trade, row.name.as_str()),
@@ -112,10 +110,9 @@ fn has_valid_text(alloc: Global, sheets: &Sheets, row: &CashRow) -> Result<bool,
     }
 }
 
-fn is_valid_cash_row(alloc: Global, sheets: &Sheets, row: &CashRow) -> Result<bool, Fault>
+fn is_valid_cash_row(alloc: Global, sheets: &Sheets, row: &CashRow) -> Result<bool, AllocError>
     requires { HasSortedKeys sheets.now }
     ensures value { IfOk result (λ holds. holds ≡ form.is_well_formed_cash_move_row (abstract_sheets sheets.now) (abstract_cash_row row.now)) }
-    ensures fault { IfErr result (λ fault. fault ≡ Memory) }
 {
     let is_called = has_valid_text(alloc, sheets, row)?;
     Ok(
@@ -127,11 +124,10 @@ fn is_valid_cash_row(alloc: Global, sheets: &Sheets, row: &CashRow) -> Result<bo
     )
 }
 
-pub(crate) fn are_valid_old_cash_rows(alloc: Global, sheets: &Sheets) -> Result<bool, Fault>
+pub(crate) fn are_valid_old_cash_rows(alloc: Global, sheets: &Sheets) -> Result<bool, AllocError>
     requires { HasSortedKeys sheets.now }
-    ensures value { IfOk result (λ holds. holds
+    ensures { IfOk result (λ holds. holds
         ≡ list_all (form.is_well_formed_cash_transaction_row (abstract_sheets sheets.now)) (map abstract_old_cash_row sheets.now.cash.items)) }
-    ensures fault { IfErr result (λ fault. fault ≡ Memory) }
 {
     for row in &sheets.cash {
         let is_formed = is_valid_old_cash_row(alloc, sheets, row)?;
@@ -142,11 +138,10 @@ pub(crate) fn are_valid_old_cash_rows(alloc: Global, sheets: &Sheets) -> Result<
     Ok(true)
 }
 
-pub(crate) fn are_valid_cash_rows(alloc: Global, sheets: &Sheets) -> Result<bool, Fault>
+pub(crate) fn are_valid_cash_rows(alloc: Global, sheets: &Sheets) -> Result<bool, AllocError>
     requires { HasSortedKeys sheets.now }
-    ensures value { IfOk result (λ holds. holds
+    ensures { IfOk result (λ holds. holds
         ≡ list_all (form.is_well_formed_cash_move_row (abstract_sheets sheets.now)) (map abstract_cash_row sheets.now.moves.items)) }
-    ensures fault { IfErr result (λ fault. fault ≡ Memory) }
 {
     for row in &sheets.moves {
         let is_formed = is_valid_cash_row(alloc, sheets, row)?;

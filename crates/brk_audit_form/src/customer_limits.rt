@@ -1,9 +1,8 @@
 //! The limits of a customer: at most 10 accounts, and tax rates that sum to at most the greatest
 //! tax rate. A customer that a map does not contain has the sum 0.
 
-ghost use Rattle.std.specs.Prelude.{◌≡◌, ℕ, ◌+◌, ◌==◌, ◌<◌, ◌≤◌, ◌^◌, cond, filter, length, nat_le, IfErr, IfOk, OnOk, ◌&&◌};
+ghost use Rattle.std.specs.Prelude.{◌≡◌, ℕ, ◌+◌, ◌==◌, ◌<◌, ◌≤◌, ◌^◌, cond, filter, length, nat_le, IfOk, OnOk, ◌&&◌};
 ghost use Rattle.std.specs.List.{list_all};
-ghost use Rattle.brk_money.specs.declared.fault.Fault.TheVariants.{Memory};
 ghost use Rattle.brk_model.specs.Form as form;
 ghost use Rattle.brk_model.specs.Limits as limits;
 ghost use Rattle.brk_trade_rows.specs.Sheets.{abstract_sheets};
@@ -11,19 +10,18 @@ ghost use Rattle.brk_audit_form.specs.Conditions.{HasSortedKeys};
 ghost use Rattle.brk_audit_form.specs.Customers.{rate_of_tax_rate_or_zero, tax_rate_sum_of_payer, sum_at_customer_id};
 
 use crate::references::find_tax_rate;
-use brk_money::{Fault, Id, TaxRate};
+use brk_money::{Id, TaxRate};
 use brk_ref::{AccountRow, Customer};
 use brk_trade_rows::Sheets;
-use std::alloc::Global;
+use std::alloc::{AllocError, Global};
 use std::collections::BTreeMap;
 
 // The greatest number of accounts of a customer.
 const MOST_ACCOUNTS: u128 = 10;
 
-fn add_to_sum(sums: &mut BTreeMap<u64, u128>, customer: Id, more: u32) -> Result<(), Fault>
+fn add_to_sum(sums: &mut BTreeMap<u64, u128>, customer: Id, more: u32) -> Result<(), AllocError>
     requires room { sum_at_customer_id sums.old customer + 2 ^ 32 < 2 ^ 128 }
     ensures more { OnOk result ((q : ℕ) → sum_at_customer_id sums.new q ≡ sum_at_customer_id sums.old q + cond (customer == q) more 0) }
-    ensures fault { IfErr result (λ fault. fault ≡ Memory) }
 {
     let number = customer.get();
     let sum = sums.get(&number).copied().unwrap_or(0);
@@ -31,9 +29,8 @@ fn add_to_sum(sums: &mut BTreeMap<u64, u128>, customer: Id, more: u32) -> Result
     Ok(())
 }
 
-fn count_accounts(alloc: Global, accounts: &[AccountRow]) -> Result<BTreeMap<u64, u128>, Fault>
-    ensures counts { IfOk result (λ counts. (q : ℕ) → sum_at_customer_id counts q ≡ length (filter (λ a. a.account.customer == q) accounts.now)) }
-    ensures fault { IfErr result (λ fault. fault ≡ Memory) }
+fn count_accounts(alloc: Global, accounts: &[AccountRow]) -> Result<BTreeMap<u64, u128>, AllocError>
+    ensures { IfOk result (λ counts. (q : ℕ) → sum_at_customer_id counts q ≡ length (filter (λ a. a.account.customer == q) accounts.now)) }
 {
     let mut counts = BTreeMap::new(alloc);
     for row in accounts {
@@ -54,10 +51,9 @@ fn rate_of_tax(sheets: &Sheets, tax: Id) -> u32
     }
 }
 
-fn sum_tax_rates(alloc: Global, sheets: &Sheets) -> Result<BTreeMap<u64, u128>, Fault>
+fn sum_tax_rates(alloc: Global, sheets: &Sheets) -> Result<BTreeMap<u64, u128>, AllocError>
     requires { HasSortedKeys sheets.now }
-    ensures sums { IfOk result (λ sums. (q : ℕ) → sum_at_customer_id sums q ≡ tax_rate_sum_of_payer (abstract_sheets sheets.now) q) }
-    ensures fault { IfErr result (λ fault. fault ≡ Memory) }
+    ensures { IfOk result (λ sums. (q : ℕ) → sum_at_customer_id sums q ≡ tax_rate_sum_of_payer (abstract_sheets sheets.now) q) }
 {
     let mut sums = BTreeMap::new(alloc);
     for row in &sheets.customer_taxes {
@@ -96,11 +92,10 @@ fn all_keep_limits(
         .all(|customer| keeps_limits(counts, sums, customer))
 }
 
-pub(crate) fn limits_are_kept(alloc: Global, sheets: &Sheets) -> Result<bool, Fault>
+pub(crate) fn limits_are_kept(alloc: Global, sheets: &Sheets) -> Result<bool, AllocError>
     requires { HasSortedKeys sheets.now }
-    ensures value { IfOk result (λ holds. holds
+    ensures { IfOk result (λ holds. holds
         ≡ list_all (form.is_within_customer_limits (abstract_sheets sheets.now)) (abstract_sheets sheets.now).customers) }
-    ensures fault { IfErr result (λ fault. fault ≡ Memory) }
 {
     let counts = count_accounts(alloc, &sheets.accounts)?;
     let sums = sum_tax_rates(alloc, sheets)?;

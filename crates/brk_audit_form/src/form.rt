@@ -1,8 +1,7 @@
 //! The condition `Form`, as one check after another.
 
-ghost use Rattle.std.specs.Prelude.{◌≡◌, ◌↔◌, true, IfErr, IfOk, IsTrue};
+ghost use Rattle.std.specs.Prelude.{◌≡◌, ◌↔◌, true, IfOk, IsTrue};
 ghost use Rattle.brk_money.specs.declared.fault.Condition.TheVariants.{Form};
-ghost use Rattle.brk_money.specs.declared.fault.Fault.TheVariants.{Memory};
 ghost use Rattle.brk_model.specs.Audit.{ConditionHolds};
 ghost use Rattle.brk_model.specs.Form.{is_last_stamp_in_calendar, is_one_day_settlement_start_in_calendar, has_rows_only_in_tables_of_schema};
 ghost use Rattle.brk_trade_rows.specs.Schemas.{abstract_schema};
@@ -16,9 +15,9 @@ use crate::numbers::{are_numbered, is_within_movement_limit};
 use crate::own_rows::trades_differ;
 use crate::tables::{has_sorted_tables, has_valid_references, has_valid_trading};
 use crate::tax_ids::tax_ids_differ;
-use brk_money::{Day, Fault, Stamp};
+use brk_money::{Day, Stamp};
 use brk_trade_rows::{Schema, Sheets};
-use std::alloc::Global;
+use std::alloc::{AllocError, Global};
 
 // The calendar ends at 9999-12-31 23:59:59.999 UTC.
 fn is_valid_last(last: Option<Stamp>) -> bool
@@ -73,9 +72,8 @@ fn passes_plain(schema: Schema, sheets: &Sheets) -> bool
 /// exceeds the limits on accounts and tax rates, at most 10^12 rows of CASH_MOVE have no trade, the
 /// last stamp and the first day of one-day settlement are in the calendar, and a table that the
 /// schema lacks has no rows.
-pub fn meets_form(alloc: Global, schema: Schema, sheets: &Sheets) -> Result<bool, Fault>
-    ensures value { IfOk result (λ holds. IsTrue holds ↔ ConditionHolds (abstract_schema schema) Form (abstract_sheets sheets.now)) }
-    ensures fault { IfErr result (λ fault. fault ≡ Memory) }
+pub fn meets_form(alloc: Global, schema: Schema, sheets: &Sheets) -> Result<bool, AllocError>
+    ensures { IfOk result (λ holds. IsTrue holds ↔ ConditionHolds (abstract_schema schema) Form (abstract_sheets sheets.now)) }
 {
     if !passes_plain(schema, sheets) {
         return Ok(false);

@@ -1,16 +1,13 @@
-ghost use Rattle.std.specs.Prelude.{◌≡◌, IfErr, IfOk, map};
-ghost use Rattle.brk_money.specs.declared.fault.Fault.TheVariants.{Memory};
+ghost use Rattle.std.specs.Prelude.{◌≡◌, IfOk, map};
 ghost use Rattle.brk_model.specs.Form as form;
 ghost use Rattle.brk_ref.specs.Records.{abstract_customer};
 
-use brk_money::Fault;
 use brk_ref::Customer;
-use std::alloc::Global;
+use std::alloc::{AllocError, Global};
 use std::collections::BTreeSet;
 
-pub(crate) fn tax_ids_differ(alloc: Global, customers: &[Customer]) -> Result<bool, Fault>
-    ensures value { IfOk result (λ holds. holds ≡ form.has_distinct_tax_ids (map abstract_customer customers.now)) }
-    ensures fault { IfErr result (λ fault. fault ≡ Memory) }
+pub(crate) fn tax_ids_differ(alloc: Global, customers: &[Customer]) -> Result<bool, AllocError>
+    ensures { IfOk result (λ holds. holds ≡ form.has_distinct_tax_ids (map abstract_customer customers.now)) }
 {
     let mut seen = BTreeSet::new(alloc);
     for customer in customers {

@@ -11,7 +11,7 @@ use Rattle.brk_ref.specs.declared.account.AccountRow.{AccountRow}
 use Rattle.brk_trade_rows.specs.Sheets.{abstract_sheets}
 use Rattle.brk_trade_rows.specs.declared.sheets.Sheets.{Sheets}
 use Rattle.brk_audit_sums.specs.AccountTerms.{account_broker_in_terms, account_tax_status_in_terms, terms_of_account_row}
-use Rattle.brk_audit_sums.specs.Settling.{account_broker_or_zero, account_tax_status_or_untaxed}
+use Rattle.brk_audit_sums.proofs.Sums.{account_broker_or_zero, account_tax_status_or_untaxed}
 use Rattle.brk_audit_sums.specs.declared.account_terms.AccountTerms.{AccountTerms}
 
 -- a map has the terms of some accounts

@@ -14,8 +14,8 @@ use Rattle.brk_ref.specs.declared.trade_row.TradeRow as trade
 use Rattle.brk_ref.specs.declared.cash_row.CashRow as move
 use Rattle.brk_audit_sums.specs.AccountTerms.{account_broker_in_terms}
 use Rattle.brk_audit_sums.specs.Completed.{is_completed_trade_row}
-use Rattle.brk_audit_sums.specs.Settling.{account_broker_or_zero}
-use Rattle.brk_audit_sums.specs.Sums.{broker_posting_of_trade_row, movement_posting_of_row, sum_over_broker_trades}
+use Rattle.brk_audit_sums.proofs.Sums.{account_broker_or_zero, sum_over_broker_trades}
+use Rattle.brk_audit_sums.specs.Sums.{broker_posting_of_trade_row, movement_posting_of_row}
 use Rattle.brk_audit_sums.specs.declared.account_terms.AccountTerms.{AccountTerms}
 use Rattle.brk_trade_books.proofs.Places.{filter-append}
 use Rattle.brk_trade_books.proofs.Worth.{total-append}

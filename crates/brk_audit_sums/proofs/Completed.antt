@@ -17,7 +17,8 @@ use Rattle.brk_trade_books.proofs.Same.{All-map, All-filter, filter-same}
 use Rattle.brk_audit_theorems.proofs.Climbs.{list_all_true}
 use Rattle.brk_audit_theorems.proofs.Marks.{Lasts, lasts, same_statuses}
 use Rattle.brk_audit_theorems.proofs.AdoptedBooks.{filter-map}
-use Rattle.brk_audit_sums.specs.Completed.{completed_trade_rows, is_completed_trade_row, is_pending_trade_row, pending_trade_rows}
+use Rattle.brk_audit_sums.specs.Completed.{is_completed_trade_row, is_pending_trade_row}
+use Rattle.brk_audit_sums.proofs.Sums.{completed_trade_rows, pending_trade_rows}
 
 -- each trade's statuses are right
 pub right_rows : (t : Tables) → satisfies_status_condition t ≡ true → AllByRecursion (λ r. has_valid_status_history t r ≡ true) t.trades

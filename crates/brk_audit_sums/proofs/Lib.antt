@@ -9,4 +9,5 @@ pub mod Settling
 pub mod SumRows
 pub mod SummaryChecked
 pub mod SummaryRows
+pub mod Sums
 pub mod Tallies

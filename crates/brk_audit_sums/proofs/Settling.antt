@@ -24,10 +24,10 @@ use Rattle.brk_trade_books.proofs.Reading.{find-map}
 use Rattle.brk_audit_theorems.proofs.Climbs.{Climbs, In, climbs_filter, climbs_map, each_in, stays}
 use Rattle.brk_audit_theorems.proofs.Members.{FoundIn, found_in, map-map, one_of_key}
 use Rattle.brk_audit_theorems.proofs.AdoptedBooks.{filter-map}
-use Rattle.brk_audit_sums.specs.Completed.{completed_trade_rows, is_completed_trade_row, is_pending_trade_row, pending_trade_rows}
-use Rattle.brk_audit_sums.specs.Settling.{settlement_amount_at_tax_status, account_broker_or_zero, settlement_figures_of_row, settlement_figures_of_trade}
+use Rattle.brk_audit_sums.specs.Completed.{is_completed_trade_row, is_pending_trade_row}
+use Rattle.brk_audit_sums.specs.Settling.{settlement_amount_at_tax_status, settlement_figures_of_row, settlement_figures_of_trade}
 use Rattle.brk_audit_sums.specs.Settling.{is_completed_cash_trade, cash_transaction_figures_of_trade, cash_transaction_figures_of_row, request_row_of_trade}
-use Rattle.brk_audit_sums.specs.Settling.{account_tax_status_or_untaxed}
+use Rattle.brk_audit_sums.proofs.Sums.{completed_trade_rows, pending_trade_rows, account_broker_or_zero, account_tax_status_or_untaxed}
 use Rattle.brk_audit_sums.proofs.Completed.{completed_rows, pending_rows, right_rows, row_moment}
 use Rattle.brk_model.specs.Schemas.{Schema}
 

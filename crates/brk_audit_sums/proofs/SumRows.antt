@@ -23,9 +23,9 @@ use Rattle.brk_trade_books.proofs.Same.{All-map, All-of, filter-same, find-each,
 use Rattle.brk_audit_theorems.proofs.Climbs.{Climbs, In, climbs_map, each_in, stays}
 use Rattle.brk_audit_theorems.proofs.Members.{FoundIn, found_in, map-map, one_of_key}
 use Rattle.brk_audit_theorems.proofs.AdoptedTables.{brokers_there}
-use Rattle.brk_audit_sums.specs.Completed.{completed_trade_rows, is_completed_trade_row}
-use Rattle.brk_audit_sums.specs.Settling.{settlement_amount_at_tax_status, account_broker_or_zero, is_completed_cash_trade, account_tax_status_or_untaxed}
-use Rattle.brk_audit_sums.specs.Sums.{sum_over_account_cash_trades, sum_over_broker_trades, movement_sum_of_account}
+use Rattle.brk_audit_sums.specs.Completed.{is_completed_trade_row}
+use Rattle.brk_audit_sums.specs.Settling.{settlement_amount_at_tax_status, is_completed_cash_trade}
+use Rattle.brk_audit_sums.proofs.Sums.{completed_trade_rows, account_broker_or_zero, account_tax_status_or_untaxed, sum_over_account_cash_trades, sum_over_broker_trades, movement_sum_of_account}
 use Rattle.brk_audit_sums.proofs.Completed.{completed_rows}
 use Rattle.brk_audit_sums.proofs.Postings.{total_mapped}
 use Rattle.brk_audit_sums.proofs.Settling.{accounts_in, filter-filter, same_account, same_amount, same_broker}

@@ -30,13 +30,14 @@ use Rattle.brk_audit_theorems.proofs.Members.{FoundIn, found_in}
 use Rattle.brk_model_theorems.proofs.FormParts.{form_parts}
 use Rattle.brk_model_theorems.proofs.Conjunctions.{parts10, parts3}
 use Rattle.brk_audit_sums.specs.Completed.{is_completed_trade_row}
-use Rattle.brk_audit_sums.specs.PositionSums.{SummariesMatchTrades, HasNonzeroQuantity, posting_with_owned_symbol, position_cmp, share_posting_of_trade}
-use Rattle.brk_audit_sums.specs.PositionSums.{share_sum_of_completed_trades, share_sum_of_summaries, share_posting_of_summary}
+use Rattle.brk_audit_sums.specs.PositionSums.{posting_with_owned_symbol, share_posting_of_trade}
+use Rattle.brk_audit_sums.specs.PositionSums.{share_posting_of_summary}
 use Rattle.brk_audit_sums.specs.Tally.{sum_at_key, total_amount_at_key}
 use Rattle.brk_audit_sums.specs.declared.tally.KeyedAmount.{KeyedAmount}
 use Rattle.brk_audit_sums.proofs.Checked.{rows_back, rows_hold}
 use Rattle.brk_audit_sums.proofs.Postings.{All-filter_map, total_mapped, total_posted}
 use Rattle.brk_audit_sums.specs.Conditions.{IsWellFormedBySomeSchema}
+use Rattle.brk_audit_sums.proofs.Sums.{SummariesMatchTrades, HasNonzeroQuantity, position_cmp, share_sum_of_completed_trades, share_sum_of_summaries}
 
 abbrev pub Place : Type 0
 Place = ℕ × Bor (List ℕ)

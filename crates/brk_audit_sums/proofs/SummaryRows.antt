@@ -35,8 +35,8 @@ use Rattle.brk_model_theorems.specs.FormParts.{SatisfiesFormParts}
 use Rattle.brk_model_theorems.proofs.FormParts.{form_parts}
 use Rattle.brk_model_theorems.proofs.Conjunctions.{parts3}
 use Rattle.brk_audit_theorems.proofs.Sorted.{All-block, All-rows}
-use Rattle.brk_audit_sums.specs.Completed.{completed_trade_rows, is_completed_trade_row}
-use Rattle.brk_audit_sums.specs.PositionSums.{SummariesMatchTrades, HasNonzeroQuantity, share_sum_of_completed_trades, share_sum_of_summaries}
+use Rattle.brk_audit_sums.specs.Completed.{is_completed_trade_row}
+use Rattle.brk_audit_sums.proofs.Sums.{completed_trade_rows, SummariesMatchTrades, HasNonzeroQuantity, share_sum_of_completed_trades, share_sum_of_summaries}
 use Rattle.brk_audit_sums.proofs.Completed.{completed_rows}
 use Rattle.brk_audit_sums.proofs.Postings.{total_mapped}
 use Rattle.brk_audit_sums.proofs.Settling.{filter-filter}

@@ -1,26 +1,13 @@
 -- The requests, settlements and cash rows that follow from the rows of trades and accounts.
 use Rattle.std.specs.Prelude.{◌≡◌, ◌↔◌, ℕ, ◌+◌, ◌*◌, ◌==◌, nat_le, Bool, true, ◌&&◌, if◌then◌else◌, List}
 use Rattle.std.specs.Prelude.{[], ◌∷◌, map, filter, Option, option_map, unwrap_or, ℤ, pos, ◌-ℤ◌}
-use Rattle.std.specs.Option.{option_map_or}
 use Rattle.brk_money.specs.Kinds.{side_of_trade_type}
 use Rattle.brk_money.specs.declared.tax_status.TaxStatus.{TaxStatus}
-use Rattle.brk_money.specs.declared.tax_status.TaxStatus.TheVariants.{Untaxed}
 use Rattle.brk_model.specs.Base.{is_withholding_status}
 use Rattle.brk_model.specs.Derived.{due_day_of_completion_stamp, signed_proceeds}
 use Rattle.brk_model.specs.Records.{SettleRule}
-use Rattle.brk_model.specs.Joins.{account_row_with_id}
-use Rattle.brk_model.specs.Tables.{Tables, OldCashRow, CashRow, RequestRow, SettlementRow, TradeRow}
+use Rattle.brk_model.specs.Tables.{OldCashRow, CashRow, RequestRow, SettlementRow, TradeRow}
 use Rattle.brk_audit_sums.specs.Completed.{is_completed_trade_row}
-
--- The broker in the first row of CUSTOMER_ACCOUNT, in the sequence of the table, with the id
--- `account`, or 0 if there is no such row.
-abbrev pub account_broker_or_zero : Tables → ℕ → ℕ
-account_broker_or_zero t account = option_map_or (λ a. a.broker) (account_row_with_id t account) 0
-
--- The tax status in the first row of CUSTOMER_ACCOUNT, in the sequence of the table, with the id
--- `account`, or `Untaxed` if there is no such row.
-abbrev pub account_tax_status_or_untaxed : Tables → ℕ → TaxStatus
-account_tax_status_or_untaxed t account = option_map_or (λ a. a.tax_status) (account_row_with_id t account) Untaxed
 
 -- The row of TRADE_REQUEST of the pending trade `r`, where `brokers` returns the broker of an
 -- account.

@@ -1,14 +1,13 @@
 //! The terms of accounts, by id: the broker, and the tax status that determines withheld tax.
 
-ghost use Rattle.std.specs.Prelude.{◌≡◌, ℕ, ◌==◌, IfErr, IfOk, find, option_map};
+ghost use Rattle.std.specs.Prelude.{◌≡◌, ℕ, ◌==◌, IfOk, find, option_map};
 ghost use Rattle.std.specs.Ordering.{nat_cmp};
 ghost use Rattle.std.specs.BTreeMap.{get};
-ghost use Rattle.brk_money.specs.declared.fault.Fault.TheVariants.{Memory};
 ghost use Rattle.brk_audit_sums.specs.AccountTerms.{account_broker_in_terms, account_tax_status_in_terms, terms_of_account_row};
 
-use brk_money::{Fault, Id, TaxStatus};
+use brk_money::{Id, TaxStatus};
 use brk_ref::AccountRow;
-use std::alloc::Global;
+use std::alloc::{AllocError, Global};
 use std::collections::BTreeMap;
 
 /// The broker and the tax status of an account.
@@ -22,9 +21,8 @@ pub struct AccountTerms {
 pub fn terms_by_id(
     alloc: Global,
     accounts: &[AccountRow],
-) -> Result<BTreeMap<u64, AccountTerms>, Fault>
+) -> Result<BTreeMap<u64, AccountTerms>, AllocError>
     ensures terms { IfOk result (λ terms. (id : ℕ) → get nat_cmp terms id ≡ option_map terms_of_account_row (find (λ a. a.account.id == id) accounts.now)) }
-    ensures fault { IfErr result (λ fault. fault ≡ Memory) }
 {
     let mut terms = BTreeMap::new(alloc);
     for row in accounts {

@@ -1,10 +1,9 @@
 //! The condition `Balance`, on the balances of accounts in cents.
 
-ghost use Rattle.std.specs.Prelude.{◌≡◌, ◌↔◌, ◌++◌, Err, IfErr, IfOk, IsTrue, OnErr, OnOk, ◌+ℤ◌};
+ghost use Rattle.std.specs.Prelude.{◌≡◌, ◌↔◌, ◌++◌, IfOk, IsTrue, OnOk, ◌+ℤ◌};
 ghost use Rattle.std.specs.List.{filter_map};
 ghost use Rattle.std.specs.Ordering.{nat_cmp};
 ghost use Rattle.brk_money.specs.declared.fault.Condition.TheVariants.{Balance};
-ghost use Rattle.brk_money.specs.declared.fault.Fault.TheVariants.{Memory};
 ghost use Rattle.brk_model.specs.Audit.{ConditionHolds};
 ghost use Rattle.brk_model.specs.Schemas.{Schema};
 ghost use Rattle.brk_ref.specs.Rows.{abstract_cash_row};
@@ -19,10 +18,9 @@ use crate::amounts::settling_amount;
 use crate::completion::is_completed;
 use crate::keyed_sum::{KeyedSum, all_match_sums, trade_postings};
 use crate::tally::{KeyedAmount, sum_by_key, sum_of_key};
-use brk_money::Fault;
 use brk_ref::{AccountRow, CashRow, TradeRow};
 use brk_trade_rows::Sheets;
-use std::alloc::Global;
+use std::alloc::{AllocError, Global};
 use std::collections::BTreeMap;
 
 // A row of CASH_MOVE without a trade is a deposit or a withdrawal.
@@ -37,9 +35,8 @@ fn movement_posting(row: &CashRow) -> Option<KeyedAmount<u64>>
     Some(KeyedAmount { key, amount })
 }
 
-fn append_moves(all: &mut Vec<KeyedAmount<u64>>, moves: &[CashRow]) -> Result<(), Fault>
+fn append_moves(all: &mut Vec<KeyedAmount<u64>>, moves: &[CashRow]) -> Result<(), AllocError>
     ensures all { OnOk result (all.new.items ≡ all.old.items ++ filter_map (λ r. movement_posting_of_row (abstract_cash_row r)) moves.now) }
-    ensures fault { OnErr result (result ≡ Err Memory) }
 {
     for row in moves {
         if let Some(posting) = movement_posting(row) {
@@ -102,11 +99,10 @@ impl KeyedSum for Balances {
 /// Returns true if the rows satisfy the condition `Balance`, which is the same in all schemas: the
 /// balance of each account is its opening balance plus the settlement amounts of its completed cash
 /// trades, its deposits and its withdrawals.
-pub fn meets_balance(alloc: Global, sheets: &Sheets) -> Result<bool, Fault>
+pub fn meets_balance(alloc: Global, sheets: &Sheets) -> Result<bool, AllocError>
     requires form { HasWellFormedRows sheets.now }
     requires status { HasValidStatuses sheets.now }
-    ensures value { IfOk result (λ holds. (schema : Schema) → IsTrue holds ↔ ConditionHolds schema Balance (abstract_sheets sheets.now)) }
-    ensures fault { IfErr result (λ fault. fault ≡ Memory) }
+    ensures { IfOk result (λ holds. (schema : Schema) → IsTrue holds ↔ ConditionHolds schema Balance (abstract_sheets sheets.now)) }
 {
     let terms = terms_by_id(alloc, &sheets.accounts)?;
     let mut postings = trade_postings::<Balances>(alloc, &terms, &sheets.trades)?;

@@ -1,9 +1,8 @@
 //! The condition `Count`, on the trade counts of brokers.
 
-ghost use Rattle.std.specs.Prelude.{◌≡◌, ◌↔◌, IfErr, IfOk, IsTrue, pos};
+ghost use Rattle.std.specs.Prelude.{◌≡◌, ◌↔◌, IfOk, IsTrue, pos};
 ghost use Rattle.std.specs.Ordering.{nat_cmp};
 ghost use Rattle.brk_money.specs.declared.fault.Condition.TheVariants.{Count};
-ghost use Rattle.brk_money.specs.declared.fault.Fault.TheVariants.{Memory};
 ghost use Rattle.brk_model.specs.Audit.{ConditionHolds};
 ghost use Rattle.brk_model.specs.Schemas.{Schema};
 ghost use Rattle.brk_trade_rows.specs.Sheets.{abstract_sheets};
@@ -16,10 +15,9 @@ use crate::account_terms::{AccountTerms, terms_by_id};
 use crate::broker_posting::at_broker;
 use crate::keyed_sum::{KeyedSum, all_match_sums, trade_postings};
 use crate::tally::{KeyedAmount, sum_by_key, sum_of_key};
-use brk_money::Fault;
 use brk_ref::{BrokerRow, TradeRow};
 use brk_trade_rows::Sheets;
-use std::alloc::Global;
+use std::alloc::{AllocError, Global};
 use std::collections::BTreeMap;
 
 /// The trade counts of brokers. Each completed trade posts 1 at the broker of its account.
@@ -46,11 +44,10 @@ impl KeyedSum for TradeCounts {
 
 /// Returns true if the rows satisfy the condition `Count`, which is the same in all schemas: each
 /// broker's trade count is the number of the completed trades of its accounts.
-pub fn meets_count(alloc: Global, sheets: &Sheets) -> Result<bool, Fault>
+pub fn meets_count(alloc: Global, sheets: &Sheets) -> Result<bool, AllocError>
     requires form { HasWellFormedRows sheets.now }
     requires status { HasValidStatuses sheets.now }
-    ensures value { IfOk result (λ holds. (schema : Schema) → IsTrue holds ↔ ConditionHolds schema Count (abstract_sheets sheets.now)) }
-    ensures fault { IfErr result (λ fault. fault ≡ Memory) }
+    ensures { IfOk result (λ holds. (schema : Schema) → IsTrue holds ↔ ConditionHolds schema Count (abstract_sheets sheets.now)) }
 {
     let terms = terms_by_id(alloc, &sheets.accounts)?;
     let postings = trade_postings::<TradeCounts>(alloc, &terms, &sheets.trades)?;

@@ -1,9 +1,8 @@
 //! Totals of rows that are sums over trades by key.
 
-ghost use Rattle.std.specs.Prelude.{◌≡◌, ◌↔◌, ℕ, ℤ, IfErr, IfOk, IsTrue, Option};
+ghost use Rattle.std.specs.Prelude.{◌≡◌, ◌↔◌, ℕ, ℤ, IfOk, IsTrue, Option};
 ghost use Rattle.std.specs.BTreeMap.{BTreeMap};
 ghost use Rattle.std.specs.List.{AllByRecursion, filter_map};
-ghost use Rattle.brk_money.specs.declared.fault.Fault.TheVariants.{Memory};
 ghost use Rattle.brk_model.specs.Tables as tables;
 ghost use Rattle.brk_ref.specs.Rows.{abstract_trade_row};
 ghost use Rattle.brk_audit_sums.specs.declared.account_terms.AccountTerms as terms;
@@ -11,9 +10,8 @@ ghost use Rattle.brk_audit_sums.specs.declared.tally.KeyedAmount as posting;
 
 use crate::account_terms::AccountTerms;
 use crate::tally::KeyedAmount;
-use brk_money::Fault;
 use brk_ref::TradeRow;
-use std::alloc::Global;
+use std::alloc::{AllocError, Global};
 use std::collections::BTreeMap;
 
 /// A column of totals: each trade may post an amount at a key, and each row has a total that
@@ -44,9 +42,8 @@ pub(crate) fn trade_postings<S: KeyedSum>(
     alloc: Global,
     terms: &BTreeMap<u64, AccountTerms>,
     trades: &[TradeRow],
-) -> Result<Vec<KeyedAmount<u64>>, Fault>
+) -> Result<Vec<KeyedAmount<u64>>, AllocError>
     ensures all { IfOk result (λ all. all.items ≡ filter_map (λ r. S.posting_of terms.now (abstract_trade_row r)) trades.now) }
-    ensures fault { IfErr result (λ fault. fault ≡ Memory) }
 {
     let all = trades
         .iter()

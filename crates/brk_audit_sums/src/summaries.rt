@@ -1,10 +1,9 @@
 //! The condition `Summary`, on the holding summaries of positions in shares: a purchase counts
 //! above 0, a sale below.
 
-ghost use Rattle.std.specs.Prelude.{◌≡◌, ◌↔◌, false, IfErr, IfOk, IsTrue, map, option_map};
+ghost use Rattle.std.specs.Prelude.{◌≡◌, ◌↔◌, false, IfOk, IsTrue, map, option_map};
 ghost use Rattle.std.specs.List.{AllByRecursion, filter_map};
 ghost use Rattle.brk_money.specs.declared.fault.Condition.TheVariants.{Summary};
-ghost use Rattle.brk_money.specs.declared.fault.Fault.TheVariants.{Memory};
 ghost use Rattle.brk_model.specs.Audit.{ConditionHolds};
 ghost use Rattle.brk_model.specs.Schemas.{Schema};
 ghost use Rattle.brk_model.specs.Lists.{is_zero};
@@ -12,15 +11,15 @@ ghost use Rattle.brk_model.specs.Shares.{signed_by_side};
 ghost use Rattle.brk_ref.specs.Rows.{abstract_summary_row, abstract_trade_row};
 ghost use Rattle.brk_trade_rows.specs.Sheets.{abstract_sheets};
 ghost use Rattle.brk_audit_sums.specs.Conditions.{HasWellFormedRows, HasValidStatuses};
-ghost use Rattle.brk_audit_sums.specs.PositionSums.{HasNonzeroQuantity, posting_with_owned_symbol, share_posting_of_trade, share_posting_of_summary};
+ghost use Rattle.brk_audit_sums.specs.PositionSums.{posting_with_owned_symbol, share_posting_of_trade, share_posting_of_summary};
 ghost use Rattle.brk_audit_sums.specs.Tally.{sum_at_key};
 
 use crate::completion::is_completed;
 use crate::tally::{KeyedAmount, sum_by_key, sum_of_key};
-use brk_money::{Fault, Side};
+use brk_money::Side;
 use brk_ref::{SummaryRow, TradeRow};
 use brk_trade_rows::Sheets;
-use std::alloc::Global;
+use std::alloc::{AllocError, Global};
 use std::collections::BTreeMap;
 
 fn signed_shares(side: Side, qty: u32) -> i64
@@ -46,9 +45,8 @@ fn share_posting(trade: &TradeRow) -> Option<KeyedAmount<(u64, &str)>>
 fn share_postings<'a>(
     alloc: Global,
     trades: &'a [TradeRow],
-) -> Result<Vec<KeyedAmount<(u64, &'a str)>>, Fault>
+) -> Result<Vec<KeyedAmount<(u64, &'a str)>>, AllocError>
     ensures all { IfOk result (λ all. map posting_with_owned_symbol all.items ≡ filter_map (λ r. share_posting_of_trade (abstract_trade_row r)) trades.now) }
-    ensures fault { IfErr result (λ fault. fault ≡ Memory) }
 {
     let mut all = Vec::new(alloc);
     for trade in trades {
@@ -71,9 +69,8 @@ fn summary_posting(row: &SummaryRow) -> KeyedAmount<(u64, &str)>
 fn summary_postings<'a>(
     alloc: Global,
     rows: &'a [SummaryRow],
-) -> Result<Vec<KeyedAmount<(u64, &'a str)>>, Fault>
-    ensures all { IfOk result (λ all. map posting_with_owned_symbol all.items ≡ map (λ r. share_posting_of_summary (abstract_summary_row r)) rows.now) }
-    ensures fault { IfErr result (λ fault. fault ≡ Memory) }
+) -> Result<Vec<KeyedAmount<(u64, &'a str)>>, AllocError>
+    ensures { IfOk result (λ all. map posting_with_owned_symbol all.items ≡ map (λ r. share_posting_of_summary (abstract_summary_row r)) rows.now) }
 {
     let mut all = Vec::new(alloc);
     for row in rows {
@@ -123,11 +120,10 @@ pub fn all_three(one: bool, other: bool, last: bool) -> bool
 /// Returns true if the rows satisfy the condition `Summary`, which is the same in all schemas: the
 /// holding summaries of a position sum to the shares that its completed trades bought minus those
 /// that they sold, and none is 0. Compares the sums at the keys of all trades and of all summaries.
-pub fn meets_summary(alloc: Global, sheets: &Sheets) -> Result<bool, Fault>
+pub fn meets_summary(alloc: Global, sheets: &Sheets) -> Result<bool, AllocError>
     requires form { HasWellFormedRows sheets.now }
     requires status { HasValidStatuses sheets.now }
-    ensures value { IfOk result (λ holds. (schema : Schema) → IsTrue holds ↔ ConditionHolds schema Summary (abstract_sheets sheets.now)) }
-    ensures fault { IfErr result (λ fault. fault ≡ Memory) }
+    ensures { IfOk result (λ holds. (schema : Schema) → IsTrue holds ↔ ConditionHolds schema Summary (abstract_sheets sheets.now)) }
 {
     let postings = share_postings(alloc, &sheets.trades)?;
     let claims = summary_postings(alloc, &sheets.summaries)?;

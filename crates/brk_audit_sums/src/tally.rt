@@ -1,12 +1,10 @@
 //! Sums of amounts by key. A key that a map does not contain has the sum 0.
 
-ghost use Rattle.std.specs.Prelude.{◌≡◌, ◌+◌, ◌<◌, ◌≤◌, ◌^◌, ℤ, pos, ◌+ℤ◌, nat_abs, cond, IfErr, IfOk, OnErr, OnOk, Err};
+ghost use Rattle.std.specs.Prelude.{◌≡◌, ◌+◌, ◌<◌, ◌≤◌, ◌^◌, ℤ, pos, ◌+ℤ◌, nat_abs, cond, IfOk, OnOk};
 ghost use Rattle.std.specs.Ordering.{is_eq};
-ghost use Rattle.brk_money.specs.declared.fault.Fault.TheVariants.{Memory};
 ghost use Rattle.brk_audit_sums.specs.Tally.{sum_at_key, total_amount_at_key};
 
-use brk_money::Fault;
-use std::alloc::Global;
+use std::alloc::{AllocError, Global};
 use std::collections::BTreeMap;
 
 /// A posting: an amount, and the key to whose sum it is added.
@@ -27,12 +25,11 @@ fn sum_plus_amount(sum: i128, amount: i64) -> i128
 fn add_posting<K: Ord + Copy>(
     tally: &mut BTreeMap<K, i128>,
     posting: &KeyedAmount<K>,
-) -> Result<(), Fault>
+) -> Result<(), AllocError>
     requires room { nat_abs (sum_at_key K.cmp tally.old posting.now.key) + 2 ^ 63 < 2 ^ 127 }
     ensures more { OnOk result ((q : K)
         → sum_at_key K.cmp tally.new q ≡ sum_at_key K.cmp tally.old q +ℤ cond (is_eq (K.cmp posting.now.key q)) posting.now.amount (pos 0)) }
     ensures small { OnOk result ((q : K) → nat_abs (sum_at_key K.cmp tally.new q) ≤ nat_abs (sum_at_key K.cmp tally.old q) + 2 ^ 63) }
-    ensures fault { OnErr result (result ≡ Err Memory) }
 {
     let key = posting.key;
     let sum = tally.get(&key).copied().unwrap_or(0);
@@ -45,9 +42,8 @@ fn add_posting<K: Ord + Copy>(
 pub fn sum_by_key<K: Ord + Copy>(
     alloc: Global,
     postings: &[KeyedAmount<K>],
-) -> Result<BTreeMap<K, i128>, Fault>
+) -> Result<BTreeMap<K, i128>, AllocError>
     ensures sums { IfOk result (λ tally. (q : K) → sum_at_key K.cmp tally q ≡ total_amount_at_key K.cmp postings.now q) }
-    ensures fault { IfErr result (λ fault. fault ≡ Memory) }
 {
     let mut tally = BTreeMap::new(alloc);
     for posting in postings {

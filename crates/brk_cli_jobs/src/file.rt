@@ -1,7 +1,6 @@
 //! A desk's database in a file.
 
-ghost use Rattle.std.specs.Prelude.{◌≡◌, Err, IfOk, MatchResult, Ok, OnErr, OnOk};
-ghost use Rattle.brk_money.specs.declared.fault.Fault.TheVariants as fault;
+ghost use Rattle.std.specs.Prelude.{◌≡◌, Err, IfOk, MatchResult, Ok, OnOk};
 ghost use Rattle.sqlite.specs.Files.{over_files};
 ghost use Rattle.brk_store_transactions.specs.Audited.{AdoptPost};
 ghost use Rattle.brk_cli_jobs.specs.Files.{HasLastCommitInFile, IsNewConnectionToFile};
@@ -9,7 +8,7 @@ ghost use Rattle.brk_cli_jobs.specs.Opened.{RepresentsRowsOfFile};
 ghost use Rattle.brk_cli_jobs.specs.Opening.{IsAdoptionResult, OpenOrCreatePost, OpenPost};
 
 use crate::examining::may_open_or_create;
-use brk_money::{Condition, Fault};
+use brk_money::{Condition, Fault, StoreFailed};
 use brk_store::Store;
 use sqlite::{Alter, Connection, File, FileStore};
 use std::alloc::Global;
@@ -19,42 +18,39 @@ use std::io::ErrorKind;
 /// A desk's store in a file, which its connection locks for this program only.
 pub type FileDesk = Store<FileStore<File>>;
 
-fn close_connection(conn: Connection<FileStore<File>>) -> Result<(), Fault>
-    ensures closed { OnOk result (HasLastCommitInFile conn) }
-    ensures fault { OnErr result (result ≡ Err fault.Store) }
+fn close_connection(conn: Connection<FileStore<File>>) -> Result<(), StoreFailed>
+    ensures { OnOk result (HasLastCommitInFile conn) }
 {
     match conn.close_files() {
         Ok(_) => Ok(()),
         Err((_, store)) => {
             drop(store.close());
-            Err(Fault::Store)
+            Err(StoreFailed)
         }
     }
 }
 
 /// Closes the file of a desk. At `Ok`, under the disk assumption, the database file contains the
-/// last commit even without its log, and a crash exposes only this commit. At `Store` the file
-/// handle is dropped, and a part of the committed data may still be only in the log beside the
-/// file.
-pub fn close_desk_file(store: FileDesk) -> Result<(), Fault>
-    ensures closed { OnOk result (HasLastCommitInFile store) }
-    ensures fault { OnErr result (result ≡ Err fault.Store) }
+/// last commit even without its log, and a crash exposes only this commit. At `StoreFailed` the
+/// file handle is dropped, and a part of the committed data may still be only in the log beside
+/// the file.
+pub fn close_desk_file(store: FileDesk) -> Result<(), StoreFailed>
+    ensures { OnOk result (HasLastCommitInFile store) }
 {
     close_connection(store.into_conn())
 }
 
 // A missing file becomes a new database. A file that may not be opened, or over which none may be
 // made, is left as it is, with its log.
-fn open_connection(rt: &HostRuntime, path: &str) -> Result<Connection<FileStore<File>>, Fault>
-    ensures opened { IfOk result IsNewConnectionToFile }
-    ensures fault { OnErr result (result ≡ Err fault.Store) }
+fn open_connection(rt: &HostRuntime, path: &str) -> Result<Connection<FileStore<File>>, StoreFailed>
+    ensures { IfOk result IsNewConnectionToFile }
 {
     if !may_open_or_create(rt, path) {
-        return Err(Fault::Store);
+        return Err(StoreFailed);
     }
     match Connection::open(rt, path) {
         Ok(conn) => Ok(conn),
-        Err(_) => Err(Fault::Store),
+        Err(_) => Err(StoreFailed),
     }
 }
 

@@ -72,6 +72,6 @@ impl DeskFiles for MachineFiles<'_> {
     fn close(&self, store: FileDesk) -> Result<(), Fault>
         ensures { OnOk result (HasLastCommitInFile store) × OnErr result (result ≡ Err fault.Store) }
     {
-        close_desk_file(store)
+        Ok(close_desk_file(store)?)
     }
 }

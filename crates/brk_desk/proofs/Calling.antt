@@ -108,12 +108,6 @@ module _ {S : Type 0} (g : Ghosts S) (old mid : Held S) (now : ℕ) (command : C
     well_formed = formed;
   }
 
-  -- its key is kept, and the answer may find no memory
-  pub repeats_or_fails : (k : Kept) (result : Result CommandAnswer Fault) → IfOk result (λ answer. (base : Base) → answer_and_base_of_retry base command k ≡ (model_answer answer, base))
-      → OnErr result (result ≡ Err Memory) → HoldsWithoutChange g old mid (λ t. Some k ≡ kept_row_under_key t key) → CommandPost g old mid now command key result
-  repeats_or_fails k (Ok answer) told none seen = repeats k answer told seen
-  repeats_or_fails k (Err fault) none e seen = fails (λ t. Some k ≡ kept_row_under_key t key) seen fault (inl (same_fault fault Memory (Err fault) refl e))
-
   -- it is refused
   pub refuses : (refusal : Refusal) → HoldsWithoutChange g old mid (DecidesCommandOfNewKey now command key (Err refusal)) → CommandPost g old mid now command key (Ok (given.Refused refusal))
   refuses refusal seen = record {

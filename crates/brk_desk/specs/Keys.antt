@@ -2,7 +2,7 @@
 use Rattle.std.specs.Prelude.{◌≡◌, ◌&&◌, ◌==◌, find, Option, Some, None, Result, Ok, bytes_eq, option_map}
 use Rattle.sqlite_trees.specs.declared.store.Store.{Ghosts}
 use Rattle.sqlite.specs.Held.{Held}
-use Rattle.brk_money.specs.declared.fault.Fault.{Fault}
+use Rattle.brk_money.specs.declared.fault.StoreFailed.{StoreFailed}
 use Rattle.brk_model.specs.Commands.{Command, Reply}
 use Rattle.brk_model.specs.Records.{Key, Kept}
 use Rattle.brk_model.specs.Tables.{Tables}
@@ -32,6 +32,6 @@ tables_with_stored_command (Some key) command reply t = tables_with_stored_reply
 -- The postcondition of reading the row of KEPT under a key. With a key it equals that of a read
 -- (`ReadPost`) whose value is the row under the key, or `None` if there is none. Without a key the
 -- result is `None`, not a fault, and the store is unchanged.
-abbrev pub ReadStoredReplyPost : {S : Type 0} → Ghosts S → Held S → Held S → Option Key → Result (Option row.Kept) Fault → Type 0
+abbrev pub ReadStoredReplyPost : {S : Type 0} → Ghosts S → Held S → Held S → Option Key → Result (Option row.Kept) StoreFailed → Type 0
 ReadStoredReplyPost g old new None result = (new ≡ old) × (result ≡ Ok None)
 ReadStoredReplyPost g old new (Some key) result = ReadPost g old new result (λ kept t. option_map abstract_kept_row kept ≡ kept_row_under_key t (Some key))

@@ -16,5 +16,5 @@ pub(crate) fn answer_query<S: Alter>(
 ) -> Planned<View>
     ensures asked { AskPost S.Store store.old store.new (abstract_query query.now) result }
 {
-    view_of_query(alloc, store, query)
+    Ok(view_of_query(alloc, store, query)?)
 }

@@ -45,7 +45,7 @@ pub(crate) fn book_command<S: Alter>(
 {
     prove_formats(command, key);
     if let Some(kept) = read_kept(store, key)? {
-        return answer_retry(alloc, command, kept);
+        return Ok(answer_retry(alloc, command, kept)?);
     }
     match decide(alloc, store, now, command)? {
         Ok(plan) => {

@@ -1,9 +1,7 @@
 //! The decision on a command, by one function for each kind of command.
 
-ghost use Rattle.std.specs.Prelude.{IfErr};
 ghost use Rattle.brk_desk_commands.specs.Commands.{abstract_command};
 ghost use Rattle.brk_trade_theorems.specs.Decisions.{DecidesCommand};
-ghost use Rattle.brk_model.specs.Run.{IsCallFault};
 ghost use Rattle.brk_store_transactions.specs.Holds.{ReadPost};
 
 use brk_desk_commands::Command;
@@ -11,7 +9,7 @@ use brk_desk_decisions::{
     decide_cancel, decide_feed, decide_movement, decide_oneday, decide_order,
     decide_reference_record, decide_result, decide_update,
 };
-use brk_money::{Planned, Stamp};
+use brk_money::{CallFault, Planned, Stamp};
 use brk_store::Store;
 use brk_trade::Plan;
 use sqlite::Alter;
@@ -23,9 +21,8 @@ pub(crate) fn decide<S: Alter>(
     store: &mut Store<S>,
     now: Stamp,
     command: &Command,
-) -> Planned<Plan>
-    ensures read { ReadPost S.Store store.old store.new result (DecidesCommand now (abstract_command command.now)) }
-    ensures fault { IfErr result IsCallFault }
+) -> Planned<Plan, CallFault>
+    ensures { ReadPost S.Store store.old store.new result (DecidesCommand now (abstract_command command.now)) }
 {
     match command {
         Command::Add(reference) => decide_reference_record(alloc, store, now, reference),

@@ -8,7 +8,7 @@ use brk_explain_reads::{
 };
 use brk_explain_rows::{AccountDetails, BrokerDetails, HoldingDetails, TradeDetails};
 use brk_lots::Lot;
-use brk_money::{Fault, Id, Planned, Stamp};
+use brk_money::{CallFault, Fault, Id, Planned, Stamp};
 use brk_ref::{CashRow, HoldingRow, Key, Symbol, TradeRow};
 use brk_store::{Store, Visitor, WalkError};
 use brk_view_rows::{Query, View};
@@ -193,7 +193,7 @@ impl<S: Alter> Desk<S> {
         ensures read { ReadPost S.Store self.old self.new result (IsStatementHeadOfAccount account) }
         ensures fault { IfErr result IsCallFault }
     {
-        account_head(alloc, &mut self.store, account)
+        Ok(account_head(alloc, &mut self.store, account)?)
     }
 
     /// Returns the facts that `brk explain` prints of a trade, or `None` if the trade does not
@@ -201,9 +201,12 @@ impl<S: Alter> Desk<S> {
     /// completed. `Store` may also mean that this trade, or one that opened a lot of which it
     /// closed shares, has no price, or that the number or the sum of the account's cash rows before
     /// it overflows.
-    pub fn trade_details(&mut self, alloc: Global, trade: Id) -> Result<Option<TradeDetails>, Fault>
-        ensures read { ReadPost S.Store self.old self.new result (AreDetailsOfTrade trade) }
-        ensures fault { IfErr result IsCallFault }
+    pub fn trade_details(
+        &mut self,
+        alloc: Global,
+        trade: Id,
+    ) -> Result<Option<TradeDetails>, CallFault>
+        ensures { ReadPost S.Store self.old self.new result (AreDetailsOfTrade trade) }
     {
         gather_trade(alloc, &mut self.store, trade)
     }
@@ -215,9 +218,8 @@ impl<S: Alter> Desk<S> {
         &mut self,
         alloc: Global,
         account: Id,
-    ) -> Result<Option<AccountDetails>, Fault>
-        ensures read { ReadPost S.Store self.old self.new result (AreDetailsOfAccount account) }
-        ensures fault { IfErr result IsCallFault }
+    ) -> Result<Option<AccountDetails>, CallFault>
+        ensures { ReadPost S.Store self.old self.new result (AreDetailsOfAccount account) }
     {
         gather_account(alloc, &mut self.store, account)
     }
@@ -233,9 +235,8 @@ impl<S: Alter> Desk<S> {
         alloc: Global,
         account: Id,
         symbol: &Symbol,
-    ) -> Planned<HoldingDetails>
-        ensures read { ReadPost S.Store self.old self.new result (AreDetailsOfHolding account symbol.now) }
-        ensures fault { IfErr result IsCallFault }
+    ) -> Planned<HoldingDetails, CallFault>
+        ensures { ReadPost S.Store self.old self.new result (AreDetailsOfHolding account symbol.now) }
     {
         gather_holding(alloc, &mut self.store, account, symbol)
     }
@@ -246,9 +247,8 @@ impl<S: Alter> Desk<S> {
         &mut self,
         alloc: Global,
         broker: Id,
-    ) -> Result<Option<BrokerDetails>, Fault>
-        ensures read { ReadPost S.Store self.old self.new result (AreDetailsOfBroker broker) }
-        ensures fault { IfErr result IsCallFault }
+    ) -> Result<Option<BrokerDetails>, CallFault>
+        ensures { ReadPost S.Store self.old self.new result (AreDetailsOfBroker broker) }
     {
         gather_broker(alloc, &mut self.store, broker)
     }

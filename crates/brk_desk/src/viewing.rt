@@ -1,9 +1,7 @@
 //! The view of a query of any kind, and the view of an estimate. `brk_desk_queries` returns the views
 //! of all other kinds.
 
-ghost use Rattle.std.specs.Prelude.{IfErr};
 ghost use Rattle.brk_model.specs.Queries.{EstimateOf};
-ghost use Rattle.brk_model.specs.Run.{IsCallFault};
 ghost use Rattle.brk_ref_orders.specs.Records.{abstract_order};
 ghost use Rattle.brk_desk_queries.specs.QueryResults.{AnswersQueryAsModel};
 ghost use Rattle.brk_store_transactions.specs.Holds.{ReadPost};
@@ -14,16 +12,19 @@ use brk_desk_queries::{
     recent_view, status_view, submitted_view, tax_id_view, touched_view, values_view,
     view_by_account, view_by_ids, view_by_symbol, volume_view,
 };
-use brk_money::Planned;
+use brk_money::{CallFault, Planned};
 use brk_ref_orders::Order;
 use brk_store::Store;
 use brk_view_rows::{Query, View};
 use sqlite::Alter;
 use std::alloc::Global;
 
-fn estimate_view<S: Alter>(alloc: Global, store: &mut Store<S>, order: &Order) -> Planned<View>
-    ensures read { ReadPost S.Store store.old store.new result (AnswersQueryAsModel (EstimateOf (abstract_order order.now))) }
-    ensures fault { IfErr result IsCallFault }
+fn estimate_view<S: Alter>(
+    alloc: Global,
+    store: &mut Store<S>,
+    order: &Order,
+) -> Planned<View, CallFault>
+    ensures { ReadPost S.Store store.old store.new result (AnswersQueryAsModel (EstimateOf (abstract_order order.now))) }
 {
     match compute_order_estimate(alloc, store, order)? {
         Ok(estimate) => Ok(Ok(View::Estimate(estimate))),
@@ -35,9 +36,8 @@ pub(crate) fn view_of_query<S: Alter>(
     alloc: Global,
     store: &mut Store<S>,
     query: &Query,
-) -> Planned<View>
-    ensures read { ReadPost S.Store store.old store.new result (AnswersQueryAsModel (abstract_query query.now)) }
-    ensures fault { IfErr result IsCallFault }
+) -> Planned<View, CallFault>
+    ensures { ReadPost S.Store store.old store.new result (AnswersQueryAsModel (abstract_query query.now)) }
 {
     match query {
         Query::Position(customer) => values_view(alloc, store, *customer),

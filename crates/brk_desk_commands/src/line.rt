@@ -10,7 +10,7 @@ ghost use Rattle.brk_money.specs.Spelling as spelling;
 ghost use Rattle.brk_money.specs.declared.fault.Fault.TheVariants.{Memory};
 ghost use Rattle.brk_trade_plans.specs.Replies.{abstract_completion, abstract_estimate, abstract_reply};
 
-use brk_money::{Cents, Day, Fault, Id, MoveId, Stamp, write_day};
+use brk_money::{Cents, Day, Fault, Id, MoveId, Stamp};
 use brk_trade_plans::{Completed, Estimate, Ordered, Reply};
 use itoa::Buffer;
 use std::alloc::{AllocError, Global};
@@ -84,14 +84,13 @@ fn canceled_line(alloc: Global, stamp: Stamp) -> Result<String, AllocError>
 }
 
 /// Returns the text of a day, such as `2024-03-01`.
-pub fn day_text(alloc: Global, day: Day) -> Result<String, Fault>
-    ensures text { IfOk result (λ text. string_bytes text ≡ spelling.day_text day) }
-    ensures fault { OnErr result (result ≡ Err Memory) }
+pub fn day_text(alloc: Global, day: Day) -> Result<String, AllocError>
+    ensures { IfOk result (λ text. string_bytes text ≡ spelling.day_text day) }
 {
     // The value is not needed: the call shows that the day is at most the greatest day.
     let _days = day.get();
     let mut bytes = Vec::new(alloc);
-    write_day(&mut bytes, day)?;
+    brk_money::append_day(&mut bytes, day)?;
     let text = String::from_utf8(bytes).unwrap();
     Ok(text)
 }
@@ -125,9 +124,8 @@ fn append_closing(line: &mut String, completed: &Completed) -> Result<(), AllocE
     )
 }
 
-fn completed_line(alloc: Global, completed: &Completed) -> Result<String, Fault>
-    ensures line { IfOk result (λ line. string_bytes line ≡ model.line_text (replies.CompletedTrade completed.now.stamp (abstract_completion completed.now))) }
-    ensures fault { OnErr result (result ≡ Err Memory) }
+fn completed_line(alloc: Global, completed: &Completed) -> Result<String, AllocError>
+    ensures { IfOk result (λ line. string_bytes line ≡ model.line_text (replies.CompletedTrade completed.now.stamp (abstract_completion completed.now))) }
 {
     let due_day = day_text(alloc, completed.due_day)?;
     let mut line = booked_line(alloc, completed.stamp)?;
@@ -189,6 +187,26 @@ fn estimated_line(alloc: Global, figures: &Estimate) -> Result<String, AllocErro
     Ok(line)
 }
 
+/// `line_text` for a caller that returns an allocation error.
+pub fn line_of_reply(alloc: Global, reply: &Reply) -> Result<String, AllocError>
+    ensures { IfOk result (λ line. string_bytes line ≡ model.line_text (abstract_reply reply.now)) }
+{
+    match reply {
+        Reply::Booked(stamp) => booked_line(alloc, *stamp),
+        Reply::Ordered(ordered) => ordered_line(alloc, ordered),
+        Reply::Ticked(stamp, triggered) => ticked_line(alloc, *stamp, triggered),
+        Reply::Canceled(stamp) => canceled_line(alloc, *stamp),
+        Reply::Completed(completed) => completed_line(alloc, completed),
+        Reply::Changed(stamp, count) => changed_line(alloc, *stamp, *count),
+        Reply::Moved {
+            stamp,
+            number,
+            balance,
+        } => moved_line(alloc, *stamp, *number, *balance),
+        Reply::Estimated(estimate) => estimated_line(alloc, estimate),
+    }
+}
+
 /// Returns the line of a reply, as it is stored under an idempotency key: the stamp, in
 /// milliseconds since 1970-01-01 UTC, and the other fields, joined by commas. Amounts are texts
 /// such as `10.00`.
@@ -196,19 +214,5 @@ pub fn line_text(alloc: Global, reply: &Reply) -> Result<String, Fault>
     ensures line { IfOk result (λ line. string_bytes line ≡ model.line_text (abstract_reply reply.now)) }
     ensures fault { OnErr result (result ≡ Err Memory) }
 {
-    let line = match reply {
-        Reply::Booked(stamp) => booked_line(alloc, *stamp)?,
-        Reply::Ordered(ordered) => ordered_line(alloc, ordered)?,
-        Reply::Ticked(stamp, triggered) => ticked_line(alloc, *stamp, triggered)?,
-        Reply::Canceled(stamp) => canceled_line(alloc, *stamp)?,
-        Reply::Completed(completed) => completed_line(alloc, completed)?,
-        Reply::Changed(stamp, count) => changed_line(alloc, *stamp, *count)?,
-        Reply::Moved {
-            stamp,
-            number,
-            balance,
-        } => moved_line(alloc, *stamp, *number, *balance)?,
-        Reply::Estimated(estimate) => estimated_line(alloc, estimate)?,
-    };
-    Ok(line)
+    Ok(line_of_reply(alloc, reply)?)
 }

@@ -2,15 +2,14 @@
 //! under idempotency keys.
 #![tactic(auto, unfolding(brk_model::specs::Rows::row_fields))]
 
-ghost use Rattle.std.specs.Prelude.{◌≡◌, ◌∷◌, [], IfOk, OnErr, Err, codes, string_bytes};
+ghost use Rattle.std.specs.Prelude.{◌≡◌, ◌∷◌, [], IfOk, codes, string_bytes};
 ghost use Rattle.std.specs.List.{join_with_byte};
 ghost use Rattle.brk_model.specs.Commands.{DepositCash, SetOneDay, WithdrawCash};
 ghost use Rattle.brk_model.specs.Rows as model;
-ghost use Rattle.brk_money.specs.declared.fault.Fault.TheVariants.{Memory};
 ghost use Rattle.brk_ref_orders.specs.Records.{movement_command};
 
 use crate::line::day_text;
-use brk_money::{Day, Fault, Id};
+use brk_money::{Day, Id};
 use brk_ref::MovedAmount;
 use brk_ref_orders::{Direction, Movement};
 use std::alloc::{AllocError, Global};
@@ -44,11 +43,9 @@ fn oneday_row(alloc: Global, day: &str) -> Result<String, AllocError>
 }
 
 /// Returns the row that sets `day` as the first day whose completions settle after one day.
-pub fn row_of_oneday(alloc: Global, day: Day) -> Result<String, Fault>
-    ensures row { IfOk result (λ row. string_bytes row ≡ model.row_text (SetOneDay day)) }
-    ensures fault { OnErr result (result ≡ Err Memory) }
+pub fn row_of_oneday(alloc: Global, day: Day) -> Result<String, AllocError>
+    ensures { IfOk result (λ row. string_bytes row ≡ model.row_text (SetOneDay day)) }
 {
     let text = day_text(alloc, day)?;
-    let row = oneday_row(alloc, text.as_str())?;
-    Ok(row)
+    oneday_row(alloc, text.as_str())
 }

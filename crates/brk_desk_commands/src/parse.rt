@@ -19,55 +19,55 @@ use brk_ref::{
     check_permission, check_security, check_tax,
 };
 use brk_trade_plans::Reference;
-use std::alloc::Global;
+use std::alloc::{AllocError, Global};
 
-fn broker_command(alloc: Global, fields: &[&[u8]]) -> Planned<Command>
-    ensures read { IfOk result (λ read. ParsesAs abstract_command read (read_and_wrap AddBroker read_broker (texts_of_fields fields.now))) }
-    ensures fault { OnErr result (result ≡ Err Memory) }
+fn broker_command(alloc: Global, fields: &[&[u8]]) -> Planned<Command, AllocError>
+    ensures { IfOk result (λ read. ParsesAs abstract_command read (read_and_wrap AddBroker read_broker (texts_of_fields fields.now))) }
 {
-    match check_broker(alloc, fields)? {
-        Ok(broker) => Ok(Ok(Command::Add(Reference::Broker(broker)))),
-        Err(refusal) => Ok(Err(refusal)),
+    match check_broker(alloc, fields) {
+        Ok(Ok(broker)) => Ok(Ok(Command::Add(Reference::Broker(broker)))),
+        Ok(Err(refusal)) => Ok(Err(refusal)),
+        Err(_) => Err(AllocError),
     }
 }
 
-fn customer_command(alloc: Global, fields: &[&[u8]]) -> Planned<Command>
-    ensures read { IfOk result (λ read. ParsesAs abstract_command read (read_and_wrap AddCustomer read_customer (texts_of_fields fields.now))) }
-    ensures fault { OnErr result (result ≡ Err Memory) }
+fn customer_command(alloc: Global, fields: &[&[u8]]) -> Planned<Command, AllocError>
+    ensures { IfOk result (λ read. ParsesAs abstract_command read (read_and_wrap AddCustomer read_customer (texts_of_fields fields.now))) }
 {
-    match check_customer(alloc, fields)? {
-        Ok(customer) => Ok(Ok(Command::Add(Reference::Customer(customer)))),
-        Err(refusal) => Ok(Err(refusal)),
+    match check_customer(alloc, fields) {
+        Ok(Ok(customer)) => Ok(Ok(Command::Add(Reference::Customer(customer)))),
+        Ok(Err(refusal)) => Ok(Err(refusal)),
+        Err(_) => Err(AllocError),
     }
 }
 
-fn account_command(alloc: Global, fields: &[&[u8]]) -> Planned<Command>
-    ensures read { IfOk result (λ read. ParsesAs abstract_command read (read_and_wrap AddAccount read_account (texts_of_fields fields.now))) }
-    ensures fault { OnErr result (result ≡ Err Memory) }
+fn account_command(alloc: Global, fields: &[&[u8]]) -> Planned<Command, AllocError>
+    ensures { IfOk result (λ read. ParsesAs abstract_command read (read_and_wrap AddAccount read_account (texts_of_fields fields.now))) }
 {
-    match check_account(alloc, fields)? {
-        Ok(account) => Ok(Ok(Command::Add(Reference::Account(account)))),
-        Err(refusal) => Ok(Err(refusal)),
+    match check_account(alloc, fields) {
+        Ok(Ok(account)) => Ok(Ok(Command::Add(Reference::Account(account)))),
+        Ok(Err(refusal)) => Ok(Err(refusal)),
+        Err(_) => Err(AllocError),
     }
 }
 
-fn permission_command(alloc: Global, fields: &[&[u8]]) -> Planned<Command>
-    ensures read { IfOk result (λ read. ParsesAs abstract_command read (read_and_wrap AddPermission read_permission (texts_of_fields fields.now))) }
-    ensures fault { OnErr result (result ≡ Err Memory) }
+fn permission_command(alloc: Global, fields: &[&[u8]]) -> Planned<Command, AllocError>
+    ensures { IfOk result (λ read. ParsesAs abstract_command read (read_and_wrap AddPermission read_permission (texts_of_fields fields.now))) }
 {
-    match check_permission(alloc, fields)? {
-        Ok(permission) => Ok(Ok(Command::Add(Reference::Permission(permission)))),
-        Err(refusal) => Ok(Err(refusal)),
+    match check_permission(alloc, fields) {
+        Ok(Ok(permission)) => Ok(Ok(Command::Add(Reference::Permission(permission)))),
+        Ok(Err(refusal)) => Ok(Err(refusal)),
+        Err(_) => Err(AllocError),
     }
 }
 
-fn listing_command(alloc: Global, fields: &[&[u8]]) -> Planned<Command>
-    ensures read { IfOk result (λ read. ParsesAs abstract_command read (read_and_wrap AddSecurity read_listing (texts_of_fields fields.now))) }
-    ensures fault { OnErr result (result ≡ Err Memory) }
+fn listing_command(alloc: Global, fields: &[&[u8]]) -> Planned<Command, AllocError>
+    ensures { IfOk result (λ read. ParsesAs abstract_command read (read_and_wrap AddSecurity read_listing (texts_of_fields fields.now))) }
 {
-    match check_security(alloc, fields)? {
-        Ok(security) => Ok(Ok(Command::Add(Reference::Security(security)))),
-        Err(refusal) => Ok(Err(refusal)),
+    match check_security(alloc, fields) {
+        Ok(Ok(security)) => Ok(Ok(Command::Add(Reference::Security(security)))),
+        Ok(Err(refusal)) => Ok(Err(refusal)),
+        Err(_) => Err(AllocError),
     }
 }
 
@@ -80,23 +80,23 @@ fn charge_command(fields: &[&[u8]]) -> Result<Command, Refusal>
     }
 }
 
-fn band_command(alloc: Global, fields: &[&[u8]]) -> Planned<Command>
-    ensures read { IfOk result (λ read. ParsesAs abstract_command read (read_and_wrap AddBand read_commission_band (texts_of_fields fields.now))) }
-    ensures fault { OnErr result (result ≡ Err Memory) }
+fn band_command(alloc: Global, fields: &[&[u8]]) -> Planned<Command, AllocError>
+    ensures { IfOk result (λ read. ParsesAs abstract_command read (read_and_wrap AddBand read_commission_band (texts_of_fields fields.now))) }
 {
-    match check_band(alloc, fields)? {
-        Ok(band) => Ok(Ok(Command::Add(Reference::Band(band)))),
-        Err(refusal) => Ok(Err(refusal)),
+    match check_band(alloc, fields) {
+        Ok(Ok(band)) => Ok(Ok(Command::Add(Reference::Band(band)))),
+        Ok(Err(refusal)) => Ok(Err(refusal)),
+        Err(_) => Err(AllocError),
     }
 }
 
-fn tax_rate_command(alloc: Global, fields: &[&[u8]]) -> Planned<Command>
-    ensures read { IfOk result (λ read. ParsesAs abstract_command read (read_and_wrap AddTaxRate read_tax_rate (texts_of_fields fields.now))) }
-    ensures fault { OnErr result (result ≡ Err Memory) }
+fn tax_rate_command(alloc: Global, fields: &[&[u8]]) -> Planned<Command, AllocError>
+    ensures { IfOk result (λ read. ParsesAs abstract_command read (read_and_wrap AddTaxRate read_tax_rate (texts_of_fields fields.now))) }
 {
-    match check_tax(alloc, fields)? {
-        Ok(tax_rate) => Ok(Ok(Command::Add(Reference::TaxRate(tax_rate)))),
-        Err(refusal) => Ok(Err(refusal)),
+    match check_tax(alloc, fields) {
+        Ok(Ok(tax_rate)) => Ok(Ok(Command::Add(Reference::TaxRate(tax_rate)))),
+        Ok(Err(refusal)) => Ok(Err(refusal)),
+        Err(_) => Err(AllocError),
     }
 }
 
@@ -110,11 +110,10 @@ fn customer_tax_command(fields: &[&[u8]]) -> Result<Command, Refusal>
 }
 
 // Refuses `broker`, `customer` and `account` as unknown kinds: the caller has parsed these.
-fn record_of_kind(alloc: Global, kind: &[u8], fields: &[&[u8]]) -> Planned<Command>
-    ensures read { IfOk result (λ read. ParsesAs abstract_command read (parse_by_first_field (other_reference_row_parsers ++ order_feed_and_cancel_parsers
+fn record_of_kind(alloc: Global, kind: &[u8], fields: &[&[u8]]) -> Planned<Command, AllocError>
+    ensures { IfOk result (λ read. ParsesAs abstract_command read (parse_by_first_field (other_reference_row_parsers ++ order_feed_and_cancel_parsers
         ++ result_row_parsers ++ update_row_parsers ++ movement_and_one_day_settlement_row_parsers) (kind.now
         ∷ texts_of_fields fields.now))) }
-    ensures fault { OnErr result (result ≡ Err Memory) }
 {
     if kind == b"permission".as_slice() {
         return permission_command(alloc, fields);
@@ -137,9 +136,8 @@ fn record_of_kind(alloc: Global, kind: &[u8], fields: &[&[u8]]) -> Planned<Comma
     trade_of_kind(alloc, kind, fields)
 }
 
-fn parse_kind(alloc: Global, kind: &[u8], fields: &[&[u8]]) -> Planned<Command>
-    ensures read { IfOk result (λ read. ParsesAs abstract_command read (parse_by_first_field row_parsers (kind.now ∷ texts_of_fields fields.now))) }
-    ensures fault { OnErr result (result ≡ Err Memory) }
+fn parse_kind(alloc: Global, kind: &[u8], fields: &[&[u8]]) -> Planned<Command, AllocError>
+    ensures { IfOk result (λ read. ParsesAs abstract_command read (parse_by_first_field row_parsers (kind.now ∷ texts_of_fields fields.now))) }
 {
     if kind == b"broker".as_slice() {
         return broker_command(alloc, fields);
@@ -167,5 +165,5 @@ pub fn parse_row(alloc: Global, fields: &[&[u8]]) -> Planned<Command>
     let [kind, fields @ ..] = fields else {
         return Ok(Err(Refusal::BadText));
     };
-    parse_kind(alloc, kind, fields)
+    Ok(parse_kind(alloc, kind, fields)?)
 }

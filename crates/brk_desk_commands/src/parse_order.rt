@@ -1,11 +1,10 @@
 //! Parsing of orders, feeds, cancels and results.
 
-ghost use Rattle.std.specs.Prelude.{◌≡◌, ◌∷◌, ◌++◌, IfOk, OnErr, Err};
+ghost use Rattle.std.specs.Prelude.{◌≡◌, ◌∷◌, ◌++◌, IfOk};
 ghost use Rattle.brk_model.specs.Commands.{CancelTrade, FeedTicks, PlaceOrder};
 ghost use Rattle.brk_model.specs.Parse.{order_feed_and_cancel_parsers, parse_by_first_field, read_and_wrap, read_id_of_trade_to_cancel, read_feed};
 ghost use Rattle.brk_model.specs.Parse.{read_order, read_complete_trade_command, result_row_parsers, update_row_parsers};
 ghost use Rattle.brk_model.specs.Parse.{movement_and_one_day_settlement_row_parsers};
-ghost use Rattle.brk_money.specs.declared.fault.Fault.TheVariants.{Memory};
 ghost use Rattle.brk_ref.specs.Fields.{ParsesAs, texts_of_fields};
 ghost use Rattle.brk_desk_commands.specs.Commands.{abstract_command};
 
@@ -13,11 +12,10 @@ use crate::command::Command;
 use crate::parse_update::update_of_kind;
 use brk_money::{Planned, Refusal};
 use brk_ref_orders::{parse_cancel, parse_completion, parse_market_feed, parse_trade_order};
-use std::alloc::Global;
+use std::alloc::{AllocError, Global};
 
-fn order_command(alloc: Global, fields: &[&[u8]]) -> Planned<Command>
-    ensures read { IfOk result (λ read. ParsesAs abstract_command read (read_and_wrap PlaceOrder read_order (texts_of_fields fields.now))) }
-    ensures fault { OnErr result (result ≡ Err Memory) }
+fn order_command(alloc: Global, fields: &[&[u8]]) -> Planned<Command, AllocError>
+    ensures { IfOk result (λ read. ParsesAs abstract_command read (read_and_wrap PlaceOrder read_order (texts_of_fields fields.now))) }
 {
     match parse_trade_order(alloc, fields)? {
         Ok(order) => Ok(Ok(Command::Order(order))),
@@ -25,9 +23,8 @@ fn order_command(alloc: Global, fields: &[&[u8]]) -> Planned<Command>
     }
 }
 
-fn feed_command(alloc: Global, fields: &[&[u8]]) -> Planned<Command>
-    ensures read { IfOk result (λ read. ParsesAs abstract_command read (read_and_wrap FeedTicks read_feed (texts_of_fields fields.now))) }
-    ensures fault { OnErr result (result ≡ Err Memory) }
+fn feed_command(alloc: Global, fields: &[&[u8]]) -> Planned<Command, AllocError>
+    ensures { IfOk result (λ read. ParsesAs abstract_command read (read_and_wrap FeedTicks read_feed (texts_of_fields fields.now))) }
 {
     match parse_market_feed(alloc, fields)? {
         Ok(feed) => Ok(Ok(Command::Feed(feed))),
@@ -53,12 +50,15 @@ fn result_command(fields: &[&[u8]]) -> Result<Command, Refusal>
     }
 }
 
-pub(crate) fn trade_of_kind(alloc: Global, kind: &[u8], fields: &[&[u8]]) -> Planned<Command>
-    ensures read { IfOk result (λ read. ParsesAs abstract_command read
+pub(crate) fn trade_of_kind(
+    alloc: Global,
+    kind: &[u8],
+    fields: &[&[u8]],
+) -> Planned<Command, AllocError>
+    ensures { IfOk result (λ read. ParsesAs abstract_command read
         (parse_by_first_field (order_feed_and_cancel_parsers ++ result_row_parsers ++ update_row_parsers
         ++ movement_and_one_day_settlement_row_parsers) (kind.now
         ∷ texts_of_fields fields.now))) }
-    ensures fault { OnErr result (result ≡ Err Memory) }
 {
     if kind == b"order".as_slice() {
         return order_command(alloc, fields);

@@ -1,11 +1,10 @@
 //! Parsing of text updates.
 
-ghost use Rattle.std.specs.Prelude.{◌≡◌, ◌∷◌, ◌++◌, IfOk, OnErr, Err};
+ghost use Rattle.std.specs.Prelude.{◌≡◌, ◌∷◌, ◌++◌, IfOk};
 ghost use Rattle.brk_model.specs.Commands.{ChangeExecutors};
 ghost use Rattle.brk_model.specs.Forms.{read_distinct_ids};
 ghost use Rattle.brk_model.specs.Parse.{movement_and_one_day_settlement_row_parsers, parse_by_first_field, read_and_wrap};
 ghost use Rattle.brk_model.specs.Parse.{read_cash_type_update, read_cash_name_update, update_row_parsers};
-ghost use Rattle.brk_money.specs.declared.fault.Fault.TheVariants.{Memory};
 ghost use Rattle.brk_ref.specs.Fields.{ParsesAs, texts_of_fields};
 ghost use Rattle.brk_desk_commands.specs.Commands.{abstract_command};
 
@@ -13,11 +12,10 @@ use crate::command::Command;
 use crate::parse_movement::cash_of_kind;
 use brk_money::{Planned, Refusal};
 use brk_ref_orders::{parse_cash_name_update, parse_cash_type_update, parse_executor_update};
-use std::alloc::Global;
+use std::alloc::{AllocError, Global};
 
-fn executor_command(alloc: Global, fields: &[&[u8]]) -> Planned<Command>
-    ensures read { IfOk result (λ read. ParsesAs abstract_command read (read_and_wrap ChangeExecutors read_distinct_ids (texts_of_fields fields.now))) }
-    ensures fault { OnErr result (result ≡ Err Memory) }
+fn executor_command(alloc: Global, fields: &[&[u8]]) -> Planned<Command, AllocError>
+    ensures { IfOk result (λ read. ParsesAs abstract_command read (read_and_wrap ChangeExecutors read_distinct_ids (texts_of_fields fields.now))) }
 {
     match parse_executor_update(alloc, fields)? {
         Ok(update) => Ok(Ok(Command::Update(update))),
@@ -36,9 +34,8 @@ fn type_command(fields: &[&[u8]]) -> Result<Command, Refusal>
 }
 
 // FROM may be later than TO.
-fn name_command(alloc: Global, fields: &[&[u8]]) -> Planned<Command>
-    ensures read { IfOk result (λ read. ParsesAs abstract_command read (read_cash_name_update (texts_of_fields fields.now))) }
-    ensures fault { OnErr result (result ≡ Err Memory) }
+fn name_command(alloc: Global, fields: &[&[u8]]) -> Planned<Command, AllocError>
+    ensures { IfOk result (λ read. ParsesAs abstract_command read (read_cash_name_update (texts_of_fields fields.now))) }
 {
     match parse_cash_name_update(alloc, fields)? {
         Ok(update) => Ok(Ok(Command::Update(update))),
@@ -46,10 +43,13 @@ fn name_command(alloc: Global, fields: &[&[u8]]) -> Planned<Command>
     }
 }
 
-pub(crate) fn update_of_kind(alloc: Global, kind: &[u8], fields: &[&[u8]]) -> Planned<Command>
-    ensures read { IfOk result (λ read. ParsesAs abstract_command read
+pub(crate) fn update_of_kind(
+    alloc: Global,
+    kind: &[u8],
+    fields: &[&[u8]],
+) -> Planned<Command, AllocError>
+    ensures { IfOk result (λ read. ParsesAs abstract_command read
         (parse_by_first_field (update_row_parsers ++ movement_and_one_day_settlement_row_parsers) (kind.now ∷ texts_of_fields fields.now))) }
-    ensures fault { OnErr result (result ≡ Err Memory) }
 {
     if kind == b"upname".as_slice() {
         return executor_command(alloc, fields);

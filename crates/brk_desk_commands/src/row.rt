@@ -141,12 +141,11 @@ pub fn row_of_reference(alloc: Global, reference: &Reference) -> Result<String, 
     }
 }
 
-/// Returns the row of a command, as it is stored under an idempotency key.
-pub fn row_text(alloc: Global, command: &Command) -> Result<String, Fault>
-    ensures row { IfOk result (λ row. string_bytes row ≡ model.row_text (abstract_command command.now)) }
-    ensures fault { OnErr result (result ≡ Err Memory) }
+/// `row_text` for a caller that returns an allocation error.
+pub fn row_of_command(alloc: Global, command: &Command) -> Result<String, AllocError>
+    ensures { IfOk result (λ row. string_bytes row ≡ model.row_text (abstract_command command.now)) }
 {
-    let row = match command {
+    match command {
         Command::Add(reference) => row_of_reference(alloc, reference),
         Command::Order(order) => row_of_order(alloc, order),
         Command::Feed(feed) => row_of_feed(alloc, feed.ticks()),
@@ -154,7 +153,14 @@ pub fn row_text(alloc: Global, command: &Command) -> Result<String, Fault>
         Command::Complete(completion) => row_of_result(alloc, completion),
         Command::Update(update) => row_of_update(alloc, update),
         Command::Move(movement) => row_of_movement(alloc, movement),
-        Command::OneDay(day) => return row_of_oneday(alloc, *day),
-    };
-    Ok(row?)
+        Command::OneDay(day) => row_of_oneday(alloc, *day),
+    }
+}
+
+/// Returns the row of a command, as it is stored under an idempotency key.
+pub fn row_text(alloc: Global, command: &Command) -> Result<String, Fault>
+    ensures row { IfOk result (λ row. string_bytes row ≡ model.row_text (abstract_command command.now)) }
+    ensures fault { OnErr result (result ≡ Err Memory) }
+{
+    Ok(row_of_command(alloc, command)?)
 }

@@ -1,5 +1,6 @@
 pub mod References
 pub mod Cancels
+pub mod SameValues
 pub mod Feeds
 pub mod Moves
 pub mod OneDays

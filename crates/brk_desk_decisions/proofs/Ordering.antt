@@ -11,7 +11,7 @@ use Rattle.brk_model.specs.Sheets.{sheets}
 use Rattle.brk_model.specs.Tables.{Tables}
 use Rattle.brk_model.specs.Tests.{first_refusal}
 use Rattle.brk_money.specs.Moments.{greatest_stamp}
-use Rattle.brk_money.specs.declared.fault.Fault.{Fault}
+use Rattle.brk_money.specs.declared.fault.CallFault.{CallFault}
 use Rattle.brk_money.specs.declared.refusal.Refusal.{Refusal}
 use Rattle.brk_ref_orders.specs.Records.{abstract_order}
 use Rattle.brk_ref_orders.specs.declared.order.Order.{Order}
@@ -35,9 +35,9 @@ OrderFactsAndLastStampMatch order last found t = (last ≡ t.last) × OrderFacts
 
 pub order_read : {S D E : Type 0} (g : Ghosts S) (old first mid : Held S) (order : Order) (last : Option ℕ) (found : OrderPlanFacts)
     → ReadPost {E = D} g old first (Ok last) (λ last t. last ≡ t.last) → ReadPost {E = E} g first mid (Ok found) (λ f t. OrderFactsMatchTables t order f)
-    → ReadPost {E = Fault} g old mid (Ok found) (OrderFactsAndLastStampMatch order last)
+    → ReadPost {E = CallFault} g old mid (Ok found) (OrderFactsAndLastStampMatch order last)
 order_read g old first mid order last found one two =
-    read_with g old first mid {H = Fault} last found found (λ last t. last ≡ t.last) (λ f t. OrderFactsMatchTables t order f) (OrderFactsAndLastStampMatch order last) (λ t e f. (e, f)) one two
+    read_with g old first mid {H = CallFault} last found found (λ last t. last ≡ t.last) (λ f t. OrderFactsMatchTables t order f) (OrderFactsAndLastStampMatch order last) (λ t e f. (e, f)) one two
 
 -- ---- an order
 
@@ -58,7 +58,7 @@ module _ (order : Order) (found : OrderPlanFacts) (last : Option ℕ) (now : ℕ
       plan_order_does base order found given last now plan (looked_up t known base books s) (subst (λ x. OrderPositionLotsSatisfy x order given) s lots) p
   planned (Err refusal) p t lots known base books s = order_refused base order found last now refusal (looked_up t known base books s) p
 
-  pub order_decided : (Held : Tables → Type 0) → ((t : Tables) → Held t → OrderPositionLotsSatisfy t order given) → (result : Result (Result Plan Refusal) Fault)
+  pub order_decided : (Held : Tables → Type 0) → ((t : Tables) → Held t → OrderPositionLotsSatisfy t order given) → (result : Result (Result Plan Refusal) CallFault)
       → IfOk result (λ planned. MatchResult planned (IsOrderPlan order found given last now)
       (λ refusal. first_refusal (order_checks found ++ free_trade_id_check found.last_trade ∷ later_stamp_check last now ∷ []) ≡ Some refusal))
       → IfOk result (λ planned. (t : Tables) → Held t → OrderFactsAndLastStampMatch order last found t → DecidesCommand now (PlaceOrder (abstract_order order)) planned t)
@@ -76,7 +76,7 @@ module _ (order : Order) (found : OrderPlanFacts) (given : List Lot → Type 0) 
       (estimate_told base order found given estimate books f l p, estimate_answered base order found given estimate books f l p)
   estimated (Err refusal) p t lots known base books s = estimate_refused base order found refusal books (subst (λ x. EstimateFactsMatchTables x order found) s known) p
 
-  pub estimate_decided : (Held : Tables → Type 0) → ((t : Tables) → Held t → OrderPositionLotsSatisfy t order given) → (result : Result (Result Estimate Refusal) Fault)
+  pub estimate_decided : (Held : Tables → Type 0) → ((t : Tables) → Held t → OrderPositionLotsSatisfy t order given) → (result : Result (Result Estimate Refusal) CallFault)
       → IfOk result (λ planned. MatchResult planned (EstimatesCheckedOrder order found given) (λ refusal. first_refusal (order_checks found) ≡ Some refusal))
       → IfOk result (λ planned. (t : Tables) → Held t → EstimateFactsMatchTables t order found → IsEstimateOfModel (abstract_order order) planned t)
   estimate_decided Held lots (Ok result) p = λ t held. estimated result p t (lots t held)

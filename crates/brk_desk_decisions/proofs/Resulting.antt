@@ -11,7 +11,7 @@ use Rattle.brk_model.specs.Joins.{trade_row_with_id}
 use Rattle.brk_model.specs.Sheets.{sheets}
 use Rattle.brk_model.specs.Tables.{Tables}
 use Rattle.brk_money.specs.Moments.{greatest_stamp}
-use Rattle.brk_money.specs.declared.fault.Fault.{Fault}
+use Rattle.brk_money.specs.declared.fault.CallFault.{CallFault}
 use Rattle.brk_money.specs.declared.refusal.Refusal.{Refusal}
 use Rattle.brk_money.specs.declared.refusal.Refusal.TheVariants.{NoTrade}
 use Rattle.brk_trade.specs.Results.{CompletesExistingTrade, IsResultRefusal}
@@ -48,7 +48,7 @@ planned_over (Some found) price given known last now is_given (Err refusal) p = 
 
 -- and so it is over the lots of whatever tables are held
 pub result_over : (found : Option ResultPlanFacts) (price : ℕ) (given : List Lot → Type 0) (last : Option ℕ) (now : ℕ) (Held : Tables → Type 0)
-    → ((t : Tables) → Held t → (ls : List Lot) → AreLotsOfTradedPosition t found ls → given ls) → (result : Result (Result Plan Refusal) Fault)
+    → ((t : Tables) → Held t → (ls : List Lot) → AreLotsOfTradedPosition t found ls → given ls) → (result : Result (Result Plan Refusal) CallFault)
     → IfOk result (λ planned. MatchResult planned (CompletesExistingTrade found price given last now) (IsResultRefusal found price given last now))
     → IfOk result (λ planned. (t : Tables) → Held t
     → MatchResult planned (CompletesExistingTrade found price (AreLotsOfTradedPosition t found) last now)
@@ -57,7 +57,7 @@ result_over found price given last now Held is_given (Ok result) p = λ t held. 
 result_over found price given last now Held is_given (Err fault) p = tt
 
 -- of no trade it is, whatever is held
-pub none_over : (Held : Tables → Type 0) (result : Result (Result Plan Refusal) Fault) → IfOk result (λ planned. MatchResult planned (λ plan. ⊥) (λ refusal. refusal ≡ NoTrade))
+pub none_over : (Held : Tables → Type 0) (result : Result (Result Plan Refusal) CallFault) → IfOk result (λ planned. MatchResult planned (λ plan. ⊥) (λ refusal. refusal ≡ NoTrade))
     → IfOk result (λ planned. (t : Tables) → Held t → MatchResult planned (λ plan. ⊥) (λ refusal. refusal ≡ NoTrade))
 none_over Held (Ok (Ok plan)) p = λ t held. p
 none_over Held (Ok (Err refusal)) p = λ t held. p
@@ -71,9 +71,9 @@ ResultFactsAndLastStampMatch id last found t = (last ≡ t.last) × AreResultFac
 -- they are known after two reads
 pub last_and_found : {S E F : Type 0} (g : Ghosts S) (old mid end : Held S) (id : ℕ) (last : Option ℕ) (found : Option ResultPlanFacts)
     → ReadPost {E = E} g old mid (Ok last) (λ last t. last ≡ t.last) → ReadPost {E = F} g mid end (Ok found) (λ found t. AreResultFactsOfTradeWithId t id found)
-    → ReadPost {E = Fault} g old end (Ok found) (ResultFactsAndLastStampMatch id last)
+    → ReadPost {E = CallFault} g old end (Ok found) (ResultFactsAndLastStampMatch id last)
 last_and_found g old mid end id last found at_last at_found =
-    read_with g old mid end {H = Fault} last found found (λ last t. last ≡ t.last) (λ found t. AreResultFactsOfTradeWithId t id found)
+    read_with g old mid end {H = CallFault} last found found (λ last t. last ≡ t.last) (λ found t. AreResultFactsOfTradeWithId t id found)
     (ResultFactsAndLastStampMatch id last) (λ t e f. (e, f)) at_last at_found
 
 -- If a trade was found, its quantity is above 0. Vacuous if none was found.
@@ -113,7 +113,7 @@ module _ (id price : ℕ) (last : Option ℕ) (now : ℕ) (moment : now ≤ grea
       result_refused base id price found (AreLotsOfTradedPosition (sheets base) found) last now refusal (looked_up found shares t known base books e)
       (subst (λ x. IsResultRefusal found price (AreLotsOfTradedPosition x found) last now refusal) e p)
 
-  pub result_decided : (found : Option ResultPlanFacts) → FoundTradeHasShares found → (Held : Tables → Type 0) → (result : Result (Result Plan Refusal) Fault)
+  pub result_decided : (found : Option ResultPlanFacts) → FoundTradeHasShares found → (Held : Tables → Type 0) → (result : Result (Result Plan Refusal) CallFault)
       → IfOk result (λ planned. (t : Tables) → Held t
       → MatchResult planned (CompletesExistingTrade found price (AreLotsOfTradedPosition t found) last now)
       (IsResultRefusal found price (AreLotsOfTradedPosition t found) last now))

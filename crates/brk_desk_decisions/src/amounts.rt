@@ -1,14 +1,13 @@
 //! The amounts that the estimate of an order needs.
 
-ghost use Rattle.std.specs.Prelude.{◌≡◌, ◌+ℤ◌, IfErr, IfSome};
+ghost use Rattle.std.specs.Prelude.{◌≡◌, ◌+ℤ◌, IfSome};
 ghost use Rattle.brk_trade_books.specs.Reads.{customer_tax_rate_sum};
 ghost use Rattle.brk_desk_decisions.specs.OrderFactReads.{AreAssetsAndSharesOfAccount, EstimateAmountsMatchTables};
-ghost use Rattle.brk_model.specs.Run.{IsCallFault};
 ghost use Rattle.brk_store_transactions.specs.Holds.{ReadPost};
 
 use crate::summary_finding::symbol_shares;
 use crate::terms::limited_tax_sum;
-use brk_money::{Cents, Fault, Id, TaxRate, Wide};
+use brk_money::{CallFault, Cents, Id, TaxRate, Wide};
 use brk_ref::{AccountRow, Symbol};
 use brk_ref_orders::Order;
 use brk_store::Store;
@@ -34,13 +33,12 @@ pub(crate) fn tax_rate_sum<S: Alter>(
     alloc: Global,
     store: &mut Store<S>,
     customer: Id,
-) -> Result<TaxRate, Fault>
-    ensures read { ReadPost S.Store store.old store.new result (λ rates t. rates ≡ customer_tax_rate_sum t customer) }
-    ensures fault { IfErr result IsCallFault }
+) -> Result<TaxRate, CallFault>
+    ensures { ReadPost S.Store store.old store.new result (λ rates t. rates ≡ customer_tax_rate_sum t customer) }
 {
     match limited_tax_sum(alloc, store, customer)? {
         Some(rates) => Ok(rates),
-        None => Err(Fault::Store),
+        None => Err(CallFault::Store),
     }
 }
 
@@ -61,16 +59,15 @@ fn account_amounts<S: Alter>(
     store: &mut Store<S>,
     account: &AccountRow,
     symbol: &Symbol,
-) -> Result<(Wide, Option<i64>), Fault>
-    ensures read { ReadPost S.Store store.old store.new result (λ amounts t. AreAssetsAndSharesOfAccount t account.now symbol.now amounts.0 amounts.1) }
-    ensures fault { IfErr result IsCallFault }
+) -> Result<(Wide, Option<i64>), CallFault>
+    ensures { ReadPost S.Store store.old store.new result (λ amounts t. AreAssetsAndSharesOfAccount t account.now symbol.now amounts.0 amounts.1) }
 {
     let held = read_valued_summaries(alloc, store, account.account.id)?;
     let shares = symbol_shares(&held.rows, symbol);
     let worth = held.value;
     match add_balance(account.balance, worth) {
         Some(assets) => Ok((assets, shares)),
-        None => Err(Fault::Store),
+        None => Err(CallFault::Store),
     }
 }
 
@@ -79,9 +76,8 @@ pub(crate) fn order_amounts<S: Alter>(
     store: &mut Store<S>,
     account: &AccountRow,
     order: &Order,
-) -> Result<Amounts, Fault>
-    ensures read { ReadPost S.Store store.old store.new result (λ amounts t. EstimateAmountsMatchTables t account.now order.now amounts) }
-    ensures fault { IfErr result IsCallFault }
+) -> Result<Amounts, CallFault>
+    ensures { ReadPost S.Store store.old store.new result (λ amounts t. EstimateAmountsMatchTables t account.now order.now amounts) }
 {
     let rates = tax_rate_sum(alloc, store, account.account.customer)?;
     let (assets, summary) = account_amounts(alloc, store, account, &order.symbol)?;

@@ -1,10 +1,9 @@
 //! Decisions on estimates of orders.
 
-ghost use Rattle.std.specs.Prelude.{◌≡◌, ◌+◌, false, Some, IfErr, IfOk, OnErr, MatchResult};
+ghost use Rattle.std.specs.Prelude.{◌≡◌, ◌+◌, false, Some, IfOk, OnErr, MatchResult};
 ghost use Rattle.brk_desk_decisions.specs.Estimates.{IsEstimateOfModel};
 ghost use Rattle.brk_desk_decisions.specs.LotReads.{AreLotsBeforeReads};
 ghost use Rattle.brk_lots.specs.Against.{is_trade_closing_lots};
-ghost use Rattle.brk_model.specs.Run.{IsCallFault};
 ghost use Rattle.brk_model.specs.Tests.{first_refusal};
 ghost use Rattle.brk_ref_orders.specs.Records.{abstract_order};
 ghost use Rattle.brk_store_transactions.specs.Holds.{ReadPost};
@@ -15,8 +14,9 @@ ghost use Rattle.brk_trade_plans.specs.declared.reply.Reply.TheVariants.{Estimat
 ghost use Rattle.brk_trade.specs.Estimates.{OrderReadsAtMostOneLotMore};
 ghost use Rattle.brk_trade.specs.Orders.{EstimatesCheckedOrder, order_checks, terms_of_order};
 
+use crate::faults::call_fault;
 use crate::order_finding::estimate_facts;
-use brk_money::Planned;
+use brk_money::{CallFault, Planned};
 use brk_ref_orders::Order;
 use brk_store::{LotPages, Store};
 use brk_trade::{Estimate, OrderPlanFacts, Reply, plan_estimate};
@@ -39,7 +39,7 @@ fn plan_estimate_over_lots<S: Alter>(
     order: &Order,
     found: &OrderPlanFacts,
     lots: &mut LotPages<'_, S>,
-) -> Planned<Estimate>
+) -> Planned<Estimate, CallFault>
     // The source borrows the same store. The reads change none of its rows; if the database is
     // still open after them, it is unchanged; and a crash after them exposes only states that a
     // crash before them could expose.
@@ -57,13 +57,11 @@ fn plan_estimate_over_lots<S: Alter>(
         (AreLotsBeforeReads S.Store lots.old lots.new) (number_of_rows_read lots.old + 15) (number_of_rows_read lots.new) }
     ensures no_lot_read { is_trade_closing_lots (terms_of_order order.now found.now).side (terms_of_order order.now found.now).held ≡ false
         → lots.new ≡ lots.old }
-
-    // The only faults are `Memory` and `Store`.
-    ensures fault { IfErr result IsCallFault }
 {
-    match plan_estimate(order, found, lots)? {
-        Ok(reply) => Ok(Ok(reply_estimate(&reply))),
-        Err(refusal) => Ok(Err(refusal)),
+    match plan_estimate(order, found, lots) {
+        Ok(Ok(reply)) => Ok(Ok(reply_estimate(&reply))),
+        Ok(Err(refusal)) => Ok(Err(refusal)),
+        Err(fault) => Err(call_fault(fault)),
     }
 }
 
@@ -76,9 +74,8 @@ pub fn compute_order_estimate<S: Alter>(
     alloc: Global,
     store: &mut Store<S>,
     order: &Order,
-) -> Planned<Estimate>
-    ensures read { ReadPost S.Store store.old store.new result (IsEstimateOfModel (abstract_order order.now)) }
-    ensures fault { IfErr result IsCallFault }
+) -> Planned<Estimate, CallFault>
+    ensures { ReadPost S.Store store.old store.new result (IsEstimateOfModel (abstract_order order.now)) }
 {
     let found = estimate_facts(alloc, store, order)?;
     let mut lots = store.lot_pages(alloc, order.account, &order.symbol, order.is_lifo);

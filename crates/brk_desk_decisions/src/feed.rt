@@ -1,17 +1,16 @@
 //! Decisions on market feeds.
 
-ghost use Rattle.std.specs.Prelude.{◌≡◌, IfErr, IfSome, option_map};
+ghost use Rattle.std.specs.Prelude.{◌≡◌, IfSome, option_map};
 ghost use Rattle.brk_trade_theorems.specs.TradePlans.{AreQuotesOfTicks, IsQuoteOfTick};
 ghost use Rattle.brk_trade_books.specs.TradeReads.{last_trade_row_of_symbol};
 ghost use Rattle.brk_trade_theorems.specs.Decisions.{DecidesCommand};
 ghost use Rattle.brk_model.specs.Commands.{FeedTicks};
-ghost use Rattle.brk_model.specs.Run.{IsCallFault};
 ghost use Rattle.brk_ref_orders.specs.Records.{abstract_ticks};
 ghost use Rattle.brk_ref.specs.Records.{abstract_last_trade_row};
 ghost use Rattle.brk_store_transactions.specs.Holds.{ReadPost};
 ghost use Rattle.brk_trade_plans.specs.Feed.{states_of_quotes, state_of_quote};
 
-use brk_money::{Fault, Planned, Stamp, TradeType};
+use brk_money::{CallFault, Planned, Stamp, TradeType};
 use brk_ref_orders::{Feed, Tick};
 use brk_store::Store;
 use brk_trade::{
@@ -27,11 +26,10 @@ fn read_tick_quote<S: Alter>(
     store: &mut Store<S>,
     tick: &Tick,
     ticks: &[Tick],
-) -> Result<Option<Quote>, Fault>
-    ensures read { ReadPost S.Store store.old store.new result (λ quote t.
+) -> Result<Option<Quote>, CallFault>
+    ensures { ReadPost S.Store store.old store.new result (λ quote t.
         (option_map (λ q. abstract_last_trade_row q.last) quote ≡ last_trade_row_of_symbol t tick.now.symbol)
         × IfSome quote (λ q. IsQuoteOfTick t tick.now ticks.now (state_of_quote q))) }
-    ensures fault { IfErr result IsCallFault }
 {
     let Some(last) = store.last_trade(&tick.symbol)? else {
         return Ok(None);
@@ -50,10 +48,9 @@ fn feed_facts<S: Alter>(
     alloc: Global,
     store: &mut Store<S>,
     ticks: &[Tick],
-) -> Result<(Option<Stamp>, Vec<Quote>), Fault>
-    ensures read { ReadPost S.Store store.old store.new result (λ market t. (market.0 ≡ t.last)
+) -> Result<(Option<Stamp>, Vec<Quote>), CallFault>
+    ensures { ReadPost S.Store store.old store.new result (λ market t. (market.0 ≡ t.last)
         × AreQuotesOfTicks t ticks.now ticks.now (states_of_quotes market.1.items)) }
-    ensures fault { IfErr result IsCallFault }
 {
     let last = store.last_stamp()?;
     let mut quotes = Vec::new(alloc);
@@ -74,12 +71,11 @@ pub fn decide_feed<S: Alter>(
     store: &mut Store<S>,
     now: Stamp,
     feed: &Feed,
-) -> Planned<Plan>
-    ensures read { ReadPost S.Store store.old store.new result (DecidesCommand now (FeedTicks (abstract_ticks feed.now))) }
-    ensures fault { IfErr result IsCallFault }
+) -> Planned<Plan, CallFault>
+    ensures { ReadPost S.Store store.old store.new result (DecidesCommand now (FeedTicks (abstract_ticks feed.now))) }
 {
     // The value is not needed: the call shows that the stamp is at most the greatest stamp.
     let _moment = now.get();
     let (last, quotes) = feed_facts(alloc, store, feed.ticks())?;
-    plan_feed(alloc, feed, quotes, last, now)
+    plan_feed(alloc, feed, quotes, last, now).map_err(|_| CallFault::Memory)
 }

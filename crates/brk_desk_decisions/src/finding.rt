@@ -1,14 +1,13 @@
 //! Reads of the facts that decide on a command that adds a reference record.
 
-ghost use Rattle.std.specs.Prelude.{◌≡◌, IfErr};
-ghost use Rattle.brk_model.specs.Run.{IsCallFault};
+ghost use Rattle.std.specs.Prelude.{◌≡◌};
 ghost use Rattle.brk_trade_theorems.specs.Found.{ReferenceFactsMatchTables, AccountFactsMatchTables};
 ghost use Rattle.brk_model.specs.Form.{has_account, has_broker, has_customer, has_security};
 ghost use Rattle.brk_trade_books.specs.Reads.{account_count_of_customer, contains_customer_with_tax_id, contains_tax_rate};
 ghost use Rattle.brk_store_transactions.specs.Holds.{ReadPost};
 
 use crate::terms::{band_facts, charge_facts, permission_facts, taxpayer_facts};
-use brk_money::{Fault, Id};
+use brk_money::{CallFault, Id};
 use brk_ref::{Account, Broker, Customer, Symbol, TaxId};
 use brk_store::Store;
 use brk_trade::{Reference, ReferenceFacts};
@@ -28,30 +27,26 @@ pub(crate) const NO_REFERENCE_FACTS: ReferenceFacts = ReferenceFacts {
     rates: None,
 };
 
-fn broker_exists<S: Alter>(store: &mut Store<S>, id: Id) -> Result<bool, Fault>
-    ensures read { ReadPost S.Store store.old store.new result (λ there t. there ≡ has_broker t id) }
-    ensures fault { IfErr result IsCallFault }
+fn broker_exists<S: Alter>(store: &mut Store<S>, id: Id) -> Result<bool, CallFault>
+    ensures { ReadPost S.Store store.old store.new result (λ there t. there ≡ has_broker t id) }
 {
     Ok(store.broker(id)?.is_some())
 }
 
-pub(crate) fn customer_exists<S: Alter>(store: &mut Store<S>, id: Id) -> Result<bool, Fault>
-    ensures read { ReadPost S.Store store.old store.new result (λ there t. there ≡ has_customer t id) }
-    ensures fault { IfErr result IsCallFault }
+pub(crate) fn customer_exists<S: Alter>(store: &mut Store<S>, id: Id) -> Result<bool, CallFault>
+    ensures { ReadPost S.Store store.old store.new result (λ there t. there ≡ has_customer t id) }
 {
     Ok(store.customer(id)?.is_some())
 }
 
-fn tax_id_exists<S: Alter>(store: &mut Store<S>, tax_id: &TaxId) -> Result<bool, Fault>
-    ensures read { ReadPost S.Store store.old store.new result (λ there t. there ≡ contains_customer_with_tax_id t tax_id.now) }
-    ensures fault { IfErr result IsCallFault }
+fn tax_id_exists<S: Alter>(store: &mut Store<S>, tax_id: &TaxId) -> Result<bool, CallFault>
+    ensures { ReadPost S.Store store.old store.new result (λ there t. there ≡ contains_customer_with_tax_id t tax_id.now) }
 {
     Ok(store.customer_by_tax_id(tax_id)?.is_some())
 }
 
-pub(crate) fn account_exists<S: Alter>(store: &mut Store<S>, id: Id) -> Result<bool, Fault>
-    ensures read { ReadPost S.Store store.old store.new result (λ there t. there ≡ has_account t id) }
-    ensures fault { IfErr result IsCallFault }
+pub(crate) fn account_exists<S: Alter>(store: &mut Store<S>, id: Id) -> Result<bool, CallFault>
+    ensures { ReadPost S.Store store.old store.new result (λ there t. there ≡ has_account t id) }
 {
     Ok(store.account(id)?.is_some())
 }
@@ -60,16 +55,17 @@ fn account_count<S: Alter>(
     alloc: Global,
     store: &mut Store<S>,
     customer: Id,
-) -> Result<usize, Fault>
-    ensures read { ReadPost S.Store store.old store.new result (λ count t. count ≡ account_count_of_customer t customer) }
-    ensures fault { IfErr result IsCallFault }
+) -> Result<usize, CallFault>
+    ensures { ReadPost S.Store store.old store.new result (λ count t. count ≡ account_count_of_customer t customer) }
 {
     Ok(store.accounts_of_customer(alloc, customer)?.len())
 }
 
-fn broker_facts<S: Alter>(store: &mut Store<S>, broker: &Broker) -> Result<ReferenceFacts, Fault>
-    ensures read { ReadPost S.Store store.old store.new result (λ found t. found.same_id ≡ has_broker t broker.now.id) }
-    ensures fault { IfErr result IsCallFault }
+fn broker_facts<S: Alter>(
+    store: &mut Store<S>,
+    broker: &Broker,
+) -> Result<ReferenceFacts, CallFault>
+    ensures { ReadPost S.Store store.old store.new result (λ found t. found.same_id ≡ has_broker t broker.now.id) }
 {
     let same_id = broker_exists(store, broker.id)?;
     Ok(ReferenceFacts {
@@ -81,10 +77,9 @@ fn broker_facts<S: Alter>(store: &mut Store<S>, broker: &Broker) -> Result<Refer
 fn customer_facts<S: Alter>(
     store: &mut Store<S>,
     customer: &Customer,
-) -> Result<ReferenceFacts, Fault>
-    ensures read { ReadPost S.Store store.old store.new result (λ found t. (found.same_id ≡ has_customer t customer.now.id)
+) -> Result<ReferenceFacts, CallFault>
+    ensures { ReadPost S.Store store.old store.new result (λ found t. (found.same_id ≡ has_customer t customer.now.id)
         × (found.same_tax_id ≡ contains_customer_with_tax_id t customer.now.tax_id)) }
-    ensures fault { IfErr result IsCallFault }
 {
     let same_id = customer_exists(store, customer.id)?;
     let same_tax_id = tax_id_exists(store, &customer.tax_id)?;
@@ -99,10 +94,9 @@ fn account_facts<S: Alter>(
     alloc: Global,
     store: &mut Store<S>,
     account: &Account,
-) -> Result<ReferenceFacts, Fault>
-    ensures read { ReadPost S.Store store.old store.new result
+) -> Result<ReferenceFacts, CallFault>
+    ensures { ReadPost S.Store store.old store.new result
         (λ found t. AccountFactsMatchTables t account.now.id account.now.customer account.now.broker found) }
-    ensures fault { IfErr result IsCallFault }
 {
     let same_id = account_exists(store, account.id)?;
     let customer = customer_exists(store, account.customer)?;
@@ -117,9 +111,11 @@ fn account_facts<S: Alter>(
     })
 }
 
-fn security_facts<S: Alter>(store: &mut Store<S>, symbol: &Symbol) -> Result<ReferenceFacts, Fault>
-    ensures read { ReadPost S.Store store.old store.new result (λ found t. found.same_id ≡ has_security t symbol.now) }
-    ensures fault { IfErr result IsCallFault }
+fn security_facts<S: Alter>(
+    store: &mut Store<S>,
+    symbol: &Symbol,
+) -> Result<ReferenceFacts, CallFault>
+    ensures { ReadPost S.Store store.old store.new result (λ found t. found.same_id ≡ has_security t symbol.now) }
 {
     let same_id = store.security(symbol)?.is_some();
     Ok(ReferenceFacts {
@@ -128,9 +124,8 @@ fn security_facts<S: Alter>(store: &mut Store<S>, symbol: &Symbol) -> Result<Ref
     })
 }
 
-fn tax_facts<S: Alter>(store: &mut Store<S>, id: Id) -> Result<ReferenceFacts, Fault>
-    ensures read { ReadPost S.Store store.old store.new result (λ found t. found.same_id ≡ contains_tax_rate t id) }
-    ensures fault { IfErr result IsCallFault }
+fn tax_facts<S: Alter>(store: &mut Store<S>, id: Id) -> Result<ReferenceFacts, CallFault>
+    ensures { ReadPost S.Store store.old store.new result (λ found t. found.same_id ≡ contains_tax_rate t id) }
 {
     let same_id = store.tax_with_id(id)?.is_some();
     Ok(ReferenceFacts {
@@ -146,9 +141,8 @@ pub(crate) fn reference_facts<S: Alter>(
     alloc: Global,
     store: &mut Store<S>,
     reference: &Reference,
-) -> Result<ReferenceFacts, Fault>
-    ensures read { ReadPost S.Store store.old store.new result (λ found t. ReferenceFactsMatchTables t reference.now found) }
-    ensures fault { IfErr result IsCallFault }
+) -> Result<ReferenceFacts, CallFault>
+    ensures { ReadPost S.Store store.old store.new result (λ found t. ReferenceFactsMatchTables t reference.now found) }
 {
     match reference {
         Reference::Broker(broker) => broker_facts(store, broker),

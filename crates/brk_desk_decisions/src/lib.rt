@@ -6,6 +6,7 @@
 pub mod amounts;
 pub mod cancel;
 pub mod estimate;
+mod faults;
 pub mod feed;
 mod finding;
 pub mod movement;

@@ -1,13 +1,11 @@
 //! Decisions on deposits and withdrawals.
 
-ghost use Rattle.std.specs.Prelude.{IfErr};
 ghost use Rattle.brk_trade_theorems.specs.Decisions.{DecidesCommand};
-ghost use Rattle.brk_model.specs.Run.{IsCallFault};
 ghost use Rattle.brk_ref_orders.specs.Records.{movement_command};
 ghost use Rattle.brk_store_transactions.specs.Holds.{ReadPost};
 
 use crate::movement_finding::movement_facts;
-use brk_money::{Planned, Stamp};
+use brk_money::{CallFault, Planned, Stamp};
 use brk_ref_orders::Movement;
 use brk_store::Store;
 use brk_trade::{Plan, plan_move};
@@ -21,13 +19,12 @@ pub fn decide_movement<S: Alter>(
     store: &mut Store<S>,
     now: Stamp,
     movement: &Movement,
-) -> Planned<Plan>
-    ensures read { ReadPost S.Store store.old store.new result (DecidesCommand now (movement_command movement.now)) }
-    ensures fault { IfErr result IsCallFault }
+) -> Planned<Plan, CallFault>
+    ensures { ReadPost S.Store store.old store.new result (DecidesCommand now (movement_command movement.now)) }
 {
     // The value is not needed: the call shows that the stamp is at most the greatest stamp.
     let _moment = now.get();
     let last = store.last_stamp()?;
     let found = movement_facts(store, movement)?;
-    plan_move(alloc, movement, &found, last, now)
+    plan_move(alloc, movement, &found, last, now).map_err(|_| CallFault::Memory)
 }

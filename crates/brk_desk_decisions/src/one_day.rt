@@ -1,12 +1,10 @@
 //! Decisions on commands that set the first day of one-day settlement.
 
-ghost use Rattle.std.specs.Prelude.{IfErr};
 ghost use Rattle.brk_trade_theorems.specs.Decisions.{DecidesCommand};
 ghost use Rattle.brk_model.specs.Commands.{SetOneDay};
-ghost use Rattle.brk_model.specs.Run.{IsCallFault};
 ghost use Rattle.brk_store_transactions.specs.Holds.{ReadPost};
 
-use brk_money::{Day, Planned, Stamp};
+use brk_money::{CallFault, Day, Planned, Stamp};
 use brk_store::Store;
 use brk_trade::{Plan, plan_oneday};
 use sqlite::Alter;
@@ -19,13 +17,12 @@ pub fn decide_oneday<S: Alter>(
     store: &mut Store<S>,
     now: Stamp,
     day: Day,
-) -> Planned<Plan>
-    ensures read { ReadPost S.Store store.old store.new result (DecidesCommand now (SetOneDay day)) }
-    ensures fault { IfErr result IsCallFault }
+) -> Planned<Plan, CallFault>
+    ensures { ReadPost S.Store store.old store.new result (DecidesCommand now (SetOneDay day)) }
 {
     // The value is not needed: the call shows that the stamp is at most the greatest stamp.
     let _moment = now.get();
     let last = store.last_stamp()?;
     let rule = store.one_day_start()?;
-    plan_oneday(alloc, day, rule, last, now)
+    plan_oneday(alloc, day, rule, last, now).map_err(|_| CallFault::Memory)
 }

@@ -1,11 +1,10 @@
 //! Decisions on orders.
 
-ghost use Rattle.std.specs.Prelude.{◌≡◌, ◌+◌, ◌++◌, ◌∷◌, [], false, Some, IfErr, IfOk, OnErr, MatchResult};
+ghost use Rattle.std.specs.Prelude.{◌≡◌, ◌+◌, ◌++◌, ◌∷◌, [], false, Some, IfOk, OnErr, MatchResult};
 ghost use Rattle.brk_trade_theorems.specs.Decisions.{DecidesCommand};
 ghost use Rattle.brk_desk_decisions.specs.LotReads.{AreLotsBeforeReads};
 ghost use Rattle.brk_lots.specs.Against.{is_trade_closing_lots};
 ghost use Rattle.brk_model.specs.Commands.{PlaceOrder};
-ghost use Rattle.brk_model.specs.Run.{IsCallFault};
 ghost use Rattle.brk_model.specs.Tests.{first_refusal};
 ghost use Rattle.brk_ref_orders.specs.Records.{abstract_order};
 ghost use Rattle.brk_trade_plans.specs.Reference.{later_stamp_check};
@@ -15,8 +14,9 @@ ghost use Rattle.brk_store.specs.RemainingLots.{borrowed_store, number_of_rows_r
 ghost use Rattle.brk_trade.specs.Estimates.{OrderReadsAtMostOneLotMore};
 ghost use Rattle.brk_trade.specs.Orders.{IsOrderPlan, order_checks, terms_of_order, free_trade_id_check};
 
+use crate::faults::call_fault;
 use crate::order_finding::order_facts;
-use brk_money::{Planned, Stamp};
+use brk_money::{CallFault, Planned, Stamp};
 use brk_ref_orders::Order;
 use brk_store::{LotPages, Store};
 use brk_trade::{OrderPlanFacts, Plan, plan_order};
@@ -32,7 +32,7 @@ fn plan_order_over_lots<S: Alter>(
     lots: &mut LotPages<'_, S>,
     last: Option<Stamp>,
     now: Stamp,
-) -> Planned<Plan>
+) -> Planned<Plan, CallFault>
     // The source borrows the same store. The reads change none of its rows; if the database is
     // still open after them, it is unchanged; and a crash after them exposes only states that a
     // crash before them could expose.
@@ -50,11 +50,8 @@ fn plan_order_over_lots<S: Alter>(
         (AreLotsBeforeReads S.Store lots.old lots.new) (number_of_rows_read lots.old + 15) (number_of_rows_read lots.new) }
     ensures no_lot_read { is_trade_closing_lots (terms_of_order order.now found.now).side (terms_of_order order.now found.now).held ≡ false
         → lots.new ≡ lots.old }
-
-    // The only faults are `Memory` and `Store`.
-    ensures fault { IfErr result IsCallFault }
 {
-    plan_order(alloc, order, found, lots, last, now)
+    plan_order(alloc, order, found, lots, last, now).map_err(call_fault)
 }
 
 /// Decides on an order at the clock reading `now` (Trade-Order): returns its plan, or the refusal.
@@ -67,9 +64,8 @@ pub fn decide_order<S: Alter>(
     store: &mut Store<S>,
     now: Stamp,
     order: &Order,
-) -> Planned<Plan>
-    ensures read { ReadPost S.Store store.old store.new result (DecidesCommand now (PlaceOrder (abstract_order order.now))) }
-    ensures fault { IfErr result IsCallFault }
+) -> Planned<Plan, CallFault>
+    ensures { ReadPost S.Store store.old store.new result (DecidesCommand now (PlaceOrder (abstract_order order.now))) }
 {
     // The value is not needed: the call shows that the stamp is at most the greatest stamp.
     let _moment = now.get();

@@ -1,17 +1,16 @@
 //! Reads of the facts that the checks of an order test, if its account exists.
 
-ghost use Rattle.std.specs.Prelude.{◌≡◌, IfErr, IfSome, option_map};
+ghost use Rattle.std.specs.Prelude.{◌≡◌, IfSome, option_map};
 ghost use Rattle.brk_money.specs.OrderTypes.{trade_type_of_order_type};
 ghost use Rattle.brk_trade_books.specs.OrderReads.{charge_of_type_and_tier, last_price_of_symbol};
 ghost use Rattle.brk_trade_books.specs.TradeReads.{commission_band_of_quantity, permission_list_for_tax_id};
 ghost use Rattle.brk_desk_decisions.specs.OrderFactReads.{CustomerOrderFactsMatchTables};
 ghost use Rattle.brk_model.specs.Joins.{security_row_with_symbol};
 ghost use Rattle.brk_model.specs.Orders.{is_customer_or_has_permission};
-ghost use Rattle.brk_model.specs.Run.{IsCallFault};
 ghost use Rattle.brk_ref.specs.Records.{abstract_customer, abstract_executor};
 ghost use Rattle.brk_store_transactions.specs.Holds.{ReadPost};
 
-use brk_money::{Fault, Id, Price, Qty, Rate, TradeType};
+use brk_money::{CallFault, Id, Price, Qty, Rate, TradeType};
 use brk_ref::{ChargeAmount, Customer, Exchange, Executor, Symbol, Tier, band_for, permitted};
 use brk_ref_orders::Order;
 use brk_store::Store;
@@ -33,9 +32,11 @@ pub struct OrderCheckFacts {
     pub rate: Option<Rate>,
 }
 
-fn read_last_price<S: Alter>(store: &mut Store<S>, symbol: &Symbol) -> Result<Option<Price>, Fault>
-    ensures read { ReadPost S.Store store.old store.new result (λ price t. price ≡ last_price_of_symbol t symbol.now) }
-    ensures fault { IfErr result IsCallFault }
+fn read_last_price<S: Alter>(
+    store: &mut Store<S>,
+    symbol: &Symbol,
+) -> Result<Option<Price>, CallFault>
+    ensures { ReadPost S.Store store.old store.new result (λ price t. price ≡ last_price_of_symbol t symbol.now) }
 {
     match store.last_trade(symbol)? {
         Some(last) => Ok(Some(last.price)),
@@ -49,12 +50,11 @@ fn may_execute<S: Alter>(
     account: Id,
     customer: &Customer,
     executor: &Executor,
-) -> Result<bool, Fault>
-    ensures read { ReadPost S.Store store.old store.new result (λ is_permitted t.
+) -> Result<bool, CallFault>
+    ensures { ReadPost S.Store store.old store.new result (λ is_permitted t.
         is_permitted
         ≡ is_customer_or_has_permission (abstract_customer customer.now) (permission_list_for_tax_id t account executor.now.tax_id)
         (abstract_executor executor.now)) }
-    ensures fault { IfErr result IsCallFault }
 {
     let permission = store.permission(account, &executor.tax_id)?;
     Ok(permitted(customer, permission.as_slice(), executor))
@@ -64,9 +64,8 @@ fn charge_of_tier<S: Alter>(
     store: &mut Store<S>,
     kind: TradeType,
     tier: Tier,
-) -> Result<Option<ChargeAmount>, Fault>
-    ensures read { ReadPost S.Store store.old store.new result (λ charge t. charge ≡ charge_of_type_and_tier t kind tier) }
-    ensures fault { IfErr result IsCallFault }
+) -> Result<Option<ChargeAmount>, CallFault>
+    ensures { ReadPost S.Store store.old store.new result (λ charge t. charge ≡ charge_of_type_and_tier t kind tier) }
 {
     match store.charge(kind, tier)? {
         Some(charge) => Ok(Some(charge.amount)),
@@ -83,10 +82,9 @@ pub(crate) fn read_band_rate<S: Alter>(
     kind: TradeType,
     exchange: &Exchange,
     qty: Qty,
-) -> Result<Option<Rate>, Fault>
-    ensures read { ReadPost S.Store store.old store.new result (λ rate t. rate
+) -> Result<Option<Rate>, CallFault>
+    ensures { ReadPost S.Store store.old store.new result (λ rate t. rate
         ≡ option_map (λ b. b.rate) (commission_band_of_quantity t tier kind exchange.now qty)) }
-    ensures fault { IfErr result IsCallFault }
 {
     let bands = store.commission_bands(alloc, tier, kind, exchange)?;
     Ok(band_for(&bands, qty))
@@ -98,11 +96,10 @@ fn read_order_rate<S: Alter>(
     store: &mut Store<S>,
     order: &Order,
     tier: Tier,
-) -> Result<Option<Rate>, Fault>
-    ensures read { ReadPost S.Store store.old store.new result (λ rate t.
+) -> Result<Option<Rate>, CallFault>
+    ensures { ReadPost S.Store store.old store.new result (λ rate t.
         IfSome (security_row_with_symbol t order.now.symbol) (λ s. rate
         ≡ option_map (λ b. b.rate) (commission_band_of_quantity t tier (trade_type_of_order_type order.now.order_type) s.exchange order.now.qty))) }
-    ensures fault { IfErr result IsCallFault }
 {
     match store.security(&order.symbol)? {
         Some(security) => {
@@ -125,9 +122,8 @@ pub(crate) fn check_facts<S: Alter>(
     store: &mut Store<S>,
     order: &Order,
     customer: &Customer,
-) -> Result<OrderCheckFacts, Fault>
-    ensures read { ReadPost S.Store store.old store.new result (λ tested t. CustomerOrderFactsMatchTables t order.now customer.now tested) }
-    ensures fault { IfErr result IsCallFault }
+) -> Result<OrderCheckFacts, CallFault>
+    ensures { ReadPost S.Store store.old store.new result (λ tested t. CustomerOrderFactsMatchTables t order.now customer.now tested) }
 {
     let tier = customer.tier;
     let last_price = read_last_price(store, &order.symbol)?;

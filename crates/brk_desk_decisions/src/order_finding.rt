@@ -1,14 +1,13 @@
 //! Reads of the facts that decide on an order.
 
-ghost use Rattle.std.specs.Prelude.{◌≡◌, IfErr};
+ghost use Rattle.std.specs.Prelude.{◌≡◌};
 ghost use Rattle.brk_trade_theorems.specs.OrderPlans.{EstimateFactsMatchTables, OrderFactsMatchTables};
 ghost use Rattle.brk_desk_decisions.specs.OrderFactReads.{EstimateFactsMatchIfAccountOfOrder, facts_with_account, facts_without_account};
-ghost use Rattle.brk_model.specs.Run.{IsCallFault};
 ghost use Rattle.brk_store_transactions.specs.Holds.{ReadPost};
 
 use crate::amounts::{Amounts, order_amounts};
 use crate::order_check_reads::{OrderCheckFacts, check_facts};
-use brk_money::{Fault, TaxRate, Wide};
+use brk_money::{CallFault, TaxRate, Wide};
 use brk_ref::AccountRow;
 use brk_ref_orders::Order;
 use brk_store::Store;
@@ -62,9 +61,8 @@ fn facts_for<S: Alter>(
     store: &mut Store<S>,
     order: &Order,
     account: &AccountRow,
-) -> Result<OrderPlanFacts, Fault>
-    ensures read { ReadPost S.Store store.old store.new result (λ found t. EstimateFactsMatchIfAccountOfOrder t order.now account.now found) }
-    ensures fault { IfErr result IsCallFault }
+) -> Result<OrderPlanFacts, CallFault>
+    ensures { ReadPost S.Store store.old store.new result (λ found t. EstimateFactsMatchIfAccountOfOrder t order.now account.now found) }
 {
     let customer = require_customer(store, account.account.customer)?;
     let tested = check_facts(alloc, store, order, &customer)?;
@@ -77,9 +75,8 @@ pub(crate) fn estimate_facts<S: Alter>(
     alloc: Global,
     store: &mut Store<S>,
     order: &Order,
-) -> Result<OrderPlanFacts, Fault>
-    ensures read { ReadPost S.Store store.old store.new result (λ found t. EstimateFactsMatchTables t order.now found) }
-    ensures fault { IfErr result IsCallFault }
+) -> Result<OrderPlanFacts, CallFault>
+    ensures { ReadPost S.Store store.old store.new result (λ found t. EstimateFactsMatchTables t order.now found) }
 {
     match store.account(order.account)? {
         Some(account) => {
@@ -94,9 +91,8 @@ pub(crate) fn order_facts<S: Alter>(
     alloc: Global,
     store: &mut Store<S>,
     order: &Order,
-) -> Result<OrderPlanFacts, Fault>
-    ensures read { ReadPost S.Store store.old store.new result (λ found t. OrderFactsMatchTables t order.now found) }
-    ensures fault { IfErr result IsCallFault }
+) -> Result<OrderPlanFacts, CallFault>
+    ensures { ReadPost S.Store store.old store.new result (λ found t. OrderFactsMatchTables t order.now found) }
 {
     let found = estimate_facts(alloc, store, order)?;
     let last_trade = store.greatest_trade_id()?;

@@ -1,14 +1,13 @@
 //! Reads of a trade's account, its customer and its broker.
 
-ghost use Rattle.std.specs.Prelude.{IfErr, IfSome};
+ghost use Rattle.std.specs.Prelude.{IfSome};
 ghost use Rattle.brk_desk_decisions.specs.ResultFactReads.{PartyFactsMatchTables};
 ghost use Rattle.brk_model.specs.Joins.{account_row_with_id};
-ghost use Rattle.brk_model.specs.Run.{IsCallFault};
 ghost use Rattle.brk_store_transactions.specs.Holds.{ReadPost};
 ghost use Rattle.brk_ref.specs.Records.{abstract_account_row};
 
 use crate::amounts::tax_rate_sum;
-use brk_money::{Fault, Id};
+use brk_money::{CallFault, Id};
 use brk_ref::AccountRow;
 use brk_store::Store;
 use brk_store_required::{require_account, require_broker_totals, require_customer};
@@ -22,9 +21,8 @@ fn parties_of_row<S: Alter>(
     alloc: Global,
     store: &mut Store<S>,
     row: AccountRow,
-) -> Result<TradeParties, Fault>
-    ensures read { ReadPost S.Store store.old store.new result (λ parties t. PartyFactsMatchTables t (abstract_account_row row) parties) }
-    ensures fault { IfErr result IsCallFault }
+) -> Result<TradeParties, CallFault>
+    ensures { ReadPost S.Store store.old store.new result (λ parties t. PartyFactsMatchTables t (abstract_account_row row) parties) }
 {
     let account = &row.account;
     let customer = require_customer(store, account.customer)?;
@@ -43,9 +41,8 @@ pub(crate) fn party_facts<S: Alter>(
     alloc: Global,
     store: &mut Store<S>,
     account: Id,
-) -> Result<TradeParties, Fault>
-    ensures read { ReadPost S.Store store.old store.new result (λ parties t. IfSome (account_row_with_id t account) (λ a. PartyFactsMatchTables t a parties)) }
-    ensures fault { IfErr result IsCallFault }
+) -> Result<TradeParties, CallFault>
+    ensures { ReadPost S.Store store.old store.new result (λ parties t. IfSome (account_row_with_id t account) (λ a. PartyFactsMatchTables t a parties)) }
 {
     let row = require_account(store, account)?;
     let parties = parties_of_row(alloc, store, row)?;

@@ -1,13 +1,11 @@
 //! Decisions on commands that add a reference record.
 
-ghost use Rattle.std.specs.Prelude.{IfErr};
 ghost use Rattle.brk_trade_plans.specs.Commands.{command_adding_record};
 ghost use Rattle.brk_trade_theorems.specs.Decisions.{DecidesCommand};
-ghost use Rattle.brk_model.specs.Run.{IsCallFault};
 ghost use Rattle.brk_store_transactions.specs.Holds.{ReadPost};
 
 use crate::finding::reference_facts;
-use brk_money::{Planned, Stamp};
+use brk_money::{CallFault, Planned, Stamp};
 use brk_store::Store;
 use brk_trade::{Plan, Reference, plan_reference};
 use sqlite::Alter;
@@ -21,13 +19,12 @@ pub fn decide_reference_record<S: Alter>(
     store: &mut Store<S>,
     now: Stamp,
     reference: &Reference,
-) -> Planned<Plan>
-    ensures read { ReadPost S.Store store.old store.new result (DecidesCommand now (command_adding_record reference.now)) }
-    ensures fault { IfErr result IsCallFault }
+) -> Planned<Plan, CallFault>
+    ensures { ReadPost S.Store store.old store.new result (DecidesCommand now (command_adding_record reference.now)) }
 {
     // The value is not needed: the call shows that the stamp is at most the greatest stamp.
     let _moment = now.get();
     let last = store.last_stamp()?;
     let found = reference_facts(alloc, store, reference)?;
-    plan_reference(alloc, reference, found, last, now)
+    plan_reference(alloc, reference, found, last, now).map_err(|_| CallFault::Memory)
 }

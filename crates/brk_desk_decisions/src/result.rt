@@ -1,13 +1,12 @@
 //! Decisions on results of trades.
 
-ghost use Rattle.std.specs.Prelude.{◌≡◌, ◌+◌, Some, IfErr, IfOk, MatchResult};
+ghost use Rattle.std.specs.Prelude.{◌≡◌, ◌+◌, Some, IfOk, MatchResult};
 ghost use Rattle.sqlite.specs.Held.{state};
 ghost use Rattle.sqlite.specs.State.{HasCleanDisk};
 ghost use Rattle.brk_trade_theorems.specs.Decisions.{DecidesCommand};
 ghost use Rattle.brk_desk_decisions.specs.LotReads.{AreLotsBeforeReads};
 ghost use Rattle.brk_desk_decisions.specs.ResultFactReads.{AreLotsOfTradedPosition};
 ghost use Rattle.brk_model.specs.Commands.{CompleteTrade};
-ghost use Rattle.brk_model.specs.Run.{IsCallFault};
 ghost use Rattle.brk_model.specs.Tables.{Tables};
 ghost use Rattle.brk_money.specs.Moments as moments;
 ghost use Rattle.brk_store_transactions.specs.Holds.{HoldsRows, ReadPost};
@@ -15,9 +14,10 @@ ghost use Rattle.brk_store.specs.ReadSequences.{IsUnchangedByReads};
 ghost use Rattle.brk_store.specs.RemainingLots.{borrowed_store, number_of_rows_read};
 ghost use Rattle.brk_trade.specs.Results.{ResultReadsAtMostOneLotMore, CompletesExistingTrade, IsResultRefusal, ClosesNoHeldShares, stamp_or_clock_reading};
 
+use crate::faults::call_fault;
 use crate::result_finding::facts_of_result;
 use brk_lots::Position;
-use brk_money::{Planned, Price, Stamp};
+use brk_money::{CallFault, Planned, Price, Stamp};
 use brk_ref_orders::Completion;
 use brk_store::{LotPages, Store};
 use brk_trade::{Plan, ResultPlanFacts, plan_result};
@@ -33,7 +33,7 @@ fn plan_result_over_lots<S: Alter>(
     lots: &mut LotPages<'_, S>,
     last: Option<Stamp>,
     now: Stamp,
-) -> Planned<Plan>
+) -> Planned<Plan, CallFault>
     // The source borrows the same store. The reads change none of its rows; if the database is
     // still open after them, it is unchanged; and a crash after them exposes only states that a
     // crash before them could expose.
@@ -49,11 +49,8 @@ fn plan_result_over_lots<S: Alter>(
     ensures few_rows_read { ResultReadsAtMostOneLotMore (Some found.now) price (stamp_or_clock_reading (moments.stamp_after last now) now)
         (AreLotsBeforeReads S.Store lots.old lots.new) (number_of_rows_read lots.old + 15) (number_of_rows_read lots.new) }
     ensures no_lot_read { ClosesNoHeldShares found.now → lots.new ≡ lots.old }
-
-    // The only faults are `Memory` and `Store`.
-    ensures fault { IfErr result IsCallFault }
 {
-    plan_result(alloc, Some(found), price, lots, last, now)
+    plan_result(alloc, Some(found), price, lots, last, now).map_err(call_fault)
 }
 
 // If the trade does not exist, `found` is `None`, and the refusal is `NoTrade` (5).
@@ -64,12 +61,11 @@ fn result_of_facts<S: Alter>(
     price: Price,
     last: Option<Stamp>,
     now: Stamp,
-) -> Planned<Plan>
+) -> Planned<Plan, CallFault>
     ensures store_unchanged { IsUnchangedByReads S.Store store.old store.new }
     ensures planned { HasCleanDisk (state S.Store store.new) → IfOk result (λ planned. (t : Tables) → HoldsRows S.Store store.old t → MatchResult planned
         (CompletesExistingTrade found price (AreLotsOfTradedPosition t found) last now)
         (IsResultRefusal found price (AreLotsOfTradedPosition t found) last now)) }
-    ensures fault { IfErr result IsCallFault }
 {
     match found {
         Some(found) => {
@@ -80,7 +76,7 @@ fn result_of_facts<S: Alter>(
         None => {
             let none = Position::new(alloc);
             let mut lots = none.from_end(false);
-            plan_result(alloc, None, price, &mut lots, last, now)
+            plan_result(alloc, None, price, &mut lots, last, now).map_err(|_| CallFault::Memory)
         }
     }
 }
@@ -97,9 +93,8 @@ pub fn decide_result<S: Alter>(
     store: &mut Store<S>,
     now: Stamp,
     completion: &Completion,
-) -> Planned<Plan>
-    ensures read { ReadPost S.Store store.old store.new result (DecidesCommand now (CompleteTrade completion.now.trade completion.now.price)) }
-    ensures fault { IfErr result IsCallFault }
+) -> Planned<Plan, CallFault>
+    ensures { ReadPost S.Store store.old store.new result (DecidesCommand now (CompleteTrade completion.now.trade completion.now.price)) }
 {
     // The value is not needed: the call shows that the stamp is at most the greatest stamp.
     let _moment = now.get();

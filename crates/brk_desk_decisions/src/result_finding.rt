@@ -1,14 +1,13 @@
 //! Reads of the facts that decide on a result.
 
-ghost use Rattle.std.specs.Prelude.{◌<◌, IfErr, IfOk, IfSome};
+ghost use Rattle.std.specs.Prelude.{◌<◌, IfOk, IfSome};
 ghost use Rattle.brk_desk_decisions.specs.ResultFactReads.{AreResultFactsOfTradeWithId, AreResultFactsOfTrade, SecurityFactsMatchTables, PostingFactsMatchTables};
 ghost use Rattle.brk_model.specs.Joins.{security_row_with_symbol};
-ghost use Rattle.brk_model.specs.Run.{IsCallFault};
 ghost use Rattle.brk_store_transactions.specs.Holds.{ReadPost};
 
 use crate::order_check_reads::read_band_rate;
 use crate::parties::party_facts;
-use brk_money::{Fault, Id};
+use brk_money::{CallFault, Id};
 use brk_ref::{Tier, TradeRow};
 use brk_store::Store;
 use brk_store_required::require_security;
@@ -22,10 +21,9 @@ fn traded_security<S: Alter>(
     store: &mut Store<S>,
     trade: &TradeRow,
     tier: Tier,
-) -> Result<TradedSecurity, Fault>
-    ensures read { ReadPost S.Store store.old store.new result
+) -> Result<TradedSecurity, CallFault>
+    ensures { ReadPost S.Store store.old store.new result
         (λ listed t. IfSome (security_row_with_symbol t trade.now.symbol) (λ s. SecurityFactsMatchTables t trade.now tier s listed)) }
-    ensures fault { IfErr result IsCallFault }
 {
     let security = require_security(store, &trade.symbol)?;
     let rate = read_band_rate(
@@ -40,9 +38,8 @@ fn traded_security<S: Alter>(
 }
 
 // Fails with `Store` also if no number is left for a cash row.
-fn posting_facts<S: Alter>(store: &mut Store<S>) -> Result<Posting, Fault>
-    ensures read { ReadPost S.Store store.old store.new result (λ posting t. PostingFactsMatchTables t posting) }
-    ensures fault { IfErr result IsCallFault }
+fn posting_facts<S: Alter>(store: &mut Store<S>) -> Result<Posting, CallFault>
+    ensures { ReadPost S.Store store.old store.new result (λ posting t. PostingFactsMatchTables t posting) }
 {
     let rule = store.one_day_start()?;
     let next = store.next_cash_row_number()?;
@@ -54,16 +51,15 @@ fn trade_facts<S: Alter>(
     alloc: Global,
     store: &mut Store<S>,
     trade: TradeRow,
-) -> Result<ResultPlanFacts, Fault>
+) -> Result<ResultPlanFacts, CallFault>
     ensures read { ReadPost S.Store store.old store.new result (λ found t. AreResultFactsOfTrade t trade found) }
     ensures some_shares { IfOk result (λ found. 0 < found.trade.qty) }
-    ensures fault { IfErr result IsCallFault }
 {
     // The value is not needed: the call shows that the quantity is at least 1 share.
     let _shares = trade.qty.get();
     let parties = party_facts(alloc, store, trade.account)?;
     let listed = traded_security(alloc, store, &trade, parties.tier)?;
-    let summary = store.summary_of(trade.account, &trade.symbol)?;
+    let summary = store.read_summary(trade.account, &trade.symbol)?;
     let posting = posting_facts(store)?;
     Ok(ResultPlanFacts {
         trade,
@@ -78,10 +74,9 @@ pub(crate) fn facts_of_result<S: Alter>(
     alloc: Global,
     store: &mut Store<S>,
     trade: Id,
-) -> Result<Option<ResultPlanFacts>, Fault>
+) -> Result<Option<ResultPlanFacts>, CallFault>
     ensures read { ReadPost S.Store store.old store.new result (λ found t. AreResultFactsOfTradeWithId t trade found) }
     ensures some_shares { IfOk result (λ found. IfSome found (λ f. 0 < f.trade.qty)) }
-    ensures fault { IfErr result IsCallFault }
 {
     match store.trade(trade)? {
         Some(row) => {

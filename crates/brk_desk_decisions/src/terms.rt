@@ -1,18 +1,17 @@
 //! Reads of permissions and taxes, and of the facts that decide on commands that add permissions,
 //! charges, commission bands and taxes of customers.
 
-ghost use Rattle.std.specs.Prelude.{◌≡◌, ◌==◌, ◌≤◌, IfErr, SomeIff, Some, filter, map};
+ghost use Rattle.std.specs.Prelude.{◌≡◌, ◌==◌, ◌≤◌, SomeIff, Some, filter, map};
 ghost use Rattle.brk_trade_theorems.specs.Found.{CustomerTaxFactsMatchTables};
 ghost use Rattle.brk_model.specs.Form.{has_account};
 ghost use Rattle.brk_trade_books.specs.Reads.{contains_charge, overlaps_some_band, contains_permission};
 ghost use Rattle.brk_trade_books.specs.Reads.{contains_customer_tax, rate_of_tax_rate_with_id, customer_tax_rate_sum, tax_rate_with_id};
 ghost use Rattle.brk_model.specs.Limits.{greatest_tax_rate};
-ghost use Rattle.brk_model.specs.Run.{IsCallFault};
 ghost use Rattle.brk_ref.specs.Records.{abstract_band, abstract_tax_rate};
 ghost use Rattle.brk_store_transactions.specs.Holds.{ReadPost};
 
 use crate::finding::{NO_REFERENCE_FACTS, account_exists, customer_exists};
-use brk_money::{Fault, Id, TaxRate};
+use brk_money::{CallFault, Id, TaxRate};
 use brk_ref::{Band, Charge, CustomerTax, Permission, Tax, TaxId, overlaps, tax_sum};
 use brk_store::Store;
 use brk_trade::ReferenceFacts;
@@ -23,17 +22,15 @@ fn has_permission<S: Alter>(
     store: &mut Store<S>,
     account: Id,
     tax_id: &TaxId,
-) -> Result<bool, Fault>
-    ensures read { ReadPost S.Store store.old store.new result (λ there t. there ≡ contains_permission t account tax_id.now) }
-    ensures fault { IfErr result IsCallFault }
+) -> Result<bool, CallFault>
+    ensures { ReadPost S.Store store.old store.new result (λ there t. there ≡ contains_permission t account tax_id.now) }
 {
     Ok(store.permission(account, tax_id)?.is_some())
 }
 
 // The rate is in hundred-thousandths.
-fn stored_rate<S: Alter>(store: &mut Store<S>, tax: Id) -> Result<Option<TaxRate>, Fault>
-    ensures read { ReadPost S.Store store.old store.new result (λ rate t. rate ≡ rate_of_tax_rate_with_id t tax) }
-    ensures fault { IfErr result IsCallFault }
+fn stored_rate<S: Alter>(store: &mut Store<S>, tax: Id) -> Result<Option<TaxRate>, CallFault>
+    ensures { ReadPost S.Store store.old store.new result (λ rate t. rate ≡ rate_of_tax_rate_with_id t tax) }
 {
     match store.tax_with_id(tax)? {
         Some(tax) => Ok(Some(tax.rate)),
@@ -41,9 +38,8 @@ fn stored_rate<S: Alter>(store: &mut Store<S>, tax: Id) -> Result<Option<TaxRate
     }
 }
 
-fn pays_tax<S: Alter>(store: &mut Store<S>, customer: Id, tax: Id) -> Result<bool, Fault>
-    ensures read { ReadPost S.Store store.old store.new result (λ there t. there ≡ contains_customer_tax t customer tax) }
-    ensures fault { IfErr result IsCallFault }
+fn pays_tax<S: Alter>(store: &mut Store<S>, customer: Id, tax: Id) -> Result<bool, CallFault>
+    ensures { ReadPost S.Store store.old store.new result (λ there t. there ≡ contains_customer_tax t customer tax) }
 {
     Ok(store.customer_tax(customer, tax)?.is_some())
 }
@@ -53,16 +49,15 @@ fn read_taxes<S: Alter>(
     alloc: Global,
     store: &mut Store<S>,
     customer: Id,
-) -> Result<Vec<Tax>, Fault>
-    ensures read { ReadPost S.Store store.old store.new result (λ taxes t.
+) -> Result<Vec<Tax>, CallFault>
+    ensures { ReadPost S.Store store.old store.new result (λ taxes t.
         map (λ tax. Some (abstract_tax_rate tax)) taxes.items ≡ map (λ r. tax_rate_with_id t r.tax) (filter (λ r. r.customer == customer) t.customer_taxes)) }
-    ensures fault { IfErr result IsCallFault }
 {
     let mut taxes = Vec::new(alloc);
     let rows = store.taxes_of_customer(alloc, customer)?;
     for row in &rows {
         let Some(tax) = store.tax_with_id(row.tax)? else {
-            return Err(Fault::Store);
+            return Err(CallFault::Store);
         };
         taxes.push(tax)?;
     }
@@ -75,10 +70,9 @@ pub(crate) fn limited_tax_sum<S: Alter>(
     alloc: Global,
     store: &mut Store<S>,
     customer: Id,
-) -> Result<Option<TaxRate>, Fault>
-    ensures read { ReadPost S.Store store.old store.new result (λ rates t. SomeIff rates (customer_tax_rate_sum t customer
+) -> Result<Option<TaxRate>, CallFault>
+    ensures { ReadPost S.Store store.old store.new result (λ rates t. SomeIff rates (customer_tax_rate_sum t customer
         ≤ greatest_tax_rate) (customer_tax_rate_sum t customer)) }
-    ensures fault { IfErr result IsCallFault }
 {
     let taxes = read_taxes(alloc, store, customer)?;
     Ok(tax_sum(&taxes))
@@ -87,10 +81,9 @@ pub(crate) fn limited_tax_sum<S: Alter>(
 pub(crate) fn permission_facts<S: Alter>(
     store: &mut Store<S>,
     permission: &Permission,
-) -> Result<ReferenceFacts, Fault>
-    ensures read { ReadPost S.Store store.old store.new result (λ found t.
+) -> Result<ReferenceFacts, CallFault>
+    ensures { ReadPost S.Store store.old store.new result (λ found t.
         (found.account ≡ has_account t permission.now.account) × (found.same_id ≡ contains_permission t permission.now.account permission.now.tax_id)) }
-    ensures fault { IfErr result IsCallFault }
 {
     let account = account_exists(store, permission.account)?;
     let same_id = has_permission(store, permission.account, &permission.tax_id)?;
@@ -104,9 +97,8 @@ pub(crate) fn permission_facts<S: Alter>(
 pub(crate) fn charge_facts<S: Alter>(
     store: &mut Store<S>,
     charge: &Charge,
-) -> Result<ReferenceFacts, Fault>
-    ensures read { ReadPost S.Store store.old store.new result (λ found t. found.same_id ≡ contains_charge t charge.now.kind charge.now.tier) }
-    ensures fault { IfErr result IsCallFault }
+) -> Result<ReferenceFacts, CallFault>
+    ensures { ReadPost S.Store store.old store.new result (λ found t. found.same_id ≡ contains_charge t charge.now.kind charge.now.tier) }
 {
     let same_id = store.charge(charge.kind, charge.tier)?.is_some();
     Ok(ReferenceFacts {
@@ -119,9 +111,8 @@ pub(crate) fn band_facts<S: Alter>(
     alloc: Global,
     store: &mut Store<S>,
     band: &Band,
-) -> Result<ReferenceFacts, Fault>
-    ensures read { ReadPost S.Store store.old store.new result (λ found t. found.overlaps ≡ overlaps_some_band t (abstract_band band.now)) }
-    ensures fault { IfErr result IsCallFault }
+) -> Result<ReferenceFacts, CallFault>
+    ensures { ReadPost S.Store store.old store.new result (λ found t. found.overlaps ≡ overlaps_some_band t (abstract_band band.now)) }
 {
     let bands = store.commission_bands(alloc, band.tier, band.kind, &band.exchange)?;
     let overlapping = overlaps(&bands, band);
@@ -136,9 +127,8 @@ pub(crate) fn taxpayer_facts<S: Alter>(
     alloc: Global,
     store: &mut Store<S>,
     pays: &CustomerTax,
-) -> Result<ReferenceFacts, Fault>
-    ensures read { ReadPost S.Store store.old store.new result (λ found t. CustomerTaxFactsMatchTables t pays.now.customer pays.now.tax found) }
-    ensures fault { IfErr result IsCallFault }
+) -> Result<ReferenceFacts, CallFault>
+    ensures { ReadPost S.Store store.old store.new result (λ found t. CustomerTaxFactsMatchTables t pays.now.customer pays.now.tax found) }
 {
     let customer = customer_exists(store, pays.customer)?;
     let rate = stored_rate(store, pays.tax)?;

@@ -1,15 +1,13 @@
 //! Decisions on text updates.
 
-ghost use Rattle.std.specs.Prelude.{IfErr};
 ghost use Rattle.brk_trade_theorems.specs.Decisions.{DecidesCommand};
-ghost use Rattle.brk_model.specs.Run.{IsCallFault};
 ghost use Rattle.brk_ref_orders.specs.Records.{text_update_command};
 ghost use Rattle.brk_store_transactions.specs.Holds.{ReadPost};
 ghost use Rattle.brk_store.specs.ReadSequences.{ReadSequencePost};
 ghost use Rattle.brk_trade_theorems.specs.Corrections.{UpdateFactsMatchTables};
 
 use crate::update_finding::{cash_name_facts, cash_type_facts, executor_facts};
-use brk_money::{Fault, Planned, Stamp};
+use brk_money::{CallFault, Planned, Stamp};
 use brk_ref_orders::Update;
 use brk_store::Store;
 use brk_trade::{Plan, TextUpdate, plan_update};
@@ -21,9 +19,8 @@ fn update_facts<S: Alter>(
     alloc: Global,
     store: &mut Store<S>,
     update: &Update,
-) -> Result<Option<TextUpdate>, Fault>
-    ensures read { ReadSequencePost S.Store store.old store.new result (λ found t. UpdateFactsMatchTables t update.now found) }
-    ensures fault { IfErr result IsCallFault }
+) -> Result<Option<TextUpdate>, CallFault>
+    ensures { ReadSequencePost S.Store store.old store.new result (λ found t. UpdateFactsMatchTables t update.now found) }
 {
     match update {
         Update::Executors(trades) => executor_facts(alloc, store, trades),
@@ -40,13 +37,12 @@ pub fn decide_update<S: Alter>(
     store: &mut Store<S>,
     now: Stamp,
     update: &Update,
-) -> Planned<Plan>
-    ensures read { ReadPost S.Store store.old store.new result (DecidesCommand now (text_update_command update.now)) }
-    ensures fault { IfErr result IsCallFault }
+) -> Planned<Plan, CallFault>
+    ensures { ReadPost S.Store store.old store.new result (DecidesCommand now (text_update_command update.now)) }
 {
     // The value is not needed: the call shows that the stamp is at most the greatest stamp.
     let _moment = now.get();
     let last = store.last_stamp()?;
     let found = update_facts(alloc, store, update)?;
-    plan_update(alloc, update, found, last, now)
+    plan_update(alloc, update, found, last, now).map_err(|_| CallFault::Memory)
 }

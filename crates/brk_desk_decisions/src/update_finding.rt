@@ -1,16 +1,15 @@
 //! Reads of the facts that decide on a text update.
 
-ghost use Rattle.std.specs.Prelude.{◌≡◌, IfErr, MatchOption, is_none, is_some, true};
+ghost use Rattle.std.specs.Prelude.{◌≡◌, MatchOption, is_none, is_some, true};
 ghost use Rattle.brk_trade_rows.specs.Chosen as chosen;
 ghost use Rattle.brk_model.specs.Joins.{account_row_with_id, security_row_with_symbol};
-ghost use Rattle.brk_model.specs.Run.{IsCallFault};
 ghost use Rattle.brk_store_transactions.specs.Holds.{ReadPost};
 ghost use Rattle.brk_store.specs.ReadSequences.{ReadSequencePost};
 ghost use Rattle.brk_trade_theorems.specs.Corrections.{CashTextsMatchTables, SettlementTextsMatchTables, UpdateFactsMatchTables, SecurityHasName};
 ghost use Rattle.brk_ref_orders.specs.declared.update.Update.TheVariants as update;
 
 use crate::update_texts::{cash_name_of, cash_type_of};
-use brk_money::{Fault, Id};
+use brk_money::{CallFault, Id};
 use brk_ref::{Name, Span, Symbol};
 use brk_ref_orders::TradeIds;
 use brk_store::{Store, read_trades_by_ids};
@@ -24,10 +23,9 @@ fn read_cash_types<S: Alter>(
     store: &mut Store<S>,
     account: Id,
     span: Span,
-) -> Result<Vec<SettlementText>, Fault>
-    ensures read { ReadPost S.Store store.old store.new result
+) -> Result<Vec<SettlementText>, CallFault>
+    ensures { ReadPost S.Store store.old store.new result
         (λ settled t. SettlementTextsMatchTables t (chosen.first_twenty_completed_trade_rows_of_account account span.first span.last t) settled.items) }
-    ensures fault { IfErr result IsCallFault }
 {
     let trades = store.completed_trades_of_account(alloc, account, span)?;
     let mut settled = Vec::new(alloc);
@@ -48,10 +46,9 @@ fn read_cash_names<S: Alter>(
     store: &mut Store<S>,
     symbol: &Symbol,
     span: Span,
-) -> Result<Vec<CashText>, Fault>
-    ensures read { ReadPost S.Store store.old store.new result
+) -> Result<Vec<CashText>, CallFault>
+    ensures { ReadPost S.Store store.old store.new result
         (λ paid t. CashTextsMatchTables t (chosen.first_twenty_completed_cash_trade_rows_of_symbol symbol.now span.first span.last t) paid.items) }
-    ensures fault { IfErr result IsCallFault }
 {
     let trades = store.completed_cash_trades_of_symbol(alloc, symbol, span)?;
     let mut paid = Vec::new(alloc);
@@ -71,9 +68,8 @@ pub(crate) fn executor_facts<S: Alter>(
     alloc: Global,
     store: &mut Store<S>,
     trades: &TradeIds,
-) -> Result<Option<TextUpdate>, Fault>
-    ensures read { ReadSequencePost S.Store store.old store.new result (λ found t. UpdateFactsMatchTables t (update.Executors trades.now) found) }
-    ensures fault { IfErr result IsCallFault }
+) -> Result<Option<TextUpdate>, CallFault>
+    ensures { ReadSequencePost S.Store store.old store.new result (λ found t. UpdateFactsMatchTables t (update.Executors trades.now) found) }
 {
     match read_trades_by_ids(alloc, store, trades.ids())? {
         Some(trades) => Ok(Some(TextUpdate::Executors(trades))),
@@ -82,9 +78,8 @@ pub(crate) fn executor_facts<S: Alter>(
 }
 
 // The same read as `finding::account_exists`, with the clause that updates need.
-fn account_row_exists<S: Alter>(store: &mut Store<S>, account: Id) -> Result<bool, Fault>
-    ensures read { ReadPost S.Store store.old store.new result (λ there t. there ≡ is_some (account_row_with_id t account)) }
-    ensures fault { IfErr result IsCallFault }
+fn account_row_exists<S: Alter>(store: &mut Store<S>, account: Id) -> Result<bool, CallFault>
+    ensures { ReadPost S.Store store.old store.new result (λ there t. there ≡ is_some (account_row_with_id t account)) }
 {
     Ok(store.account(account)?.is_some())
 }
@@ -94,9 +89,8 @@ pub(crate) fn cash_type_facts<S: Alter>(
     store: &mut Store<S>,
     account: Id,
     span: Span,
-) -> Result<Option<TextUpdate>, Fault>
-    ensures read { ReadPost S.Store store.old store.new result (λ found t. UpdateFactsMatchTables t (update.CashTypes account span) found) }
-    ensures fault { IfErr result IsCallFault }
+) -> Result<Option<TextUpdate>, CallFault>
+    ensures { ReadPost S.Store store.old store.new result (λ found t. UpdateFactsMatchTables t (update.CashTypes account span) found) }
 {
     if !account_row_exists(store, account)? {
         return Ok(None);
@@ -105,10 +99,9 @@ pub(crate) fn cash_type_facts<S: Alter>(
     Ok(Some(TextUpdate::CashTypes(settled)))
 }
 
-fn symbol_name<S: Alter>(store: &mut Store<S>, symbol: &Symbol) -> Result<Option<Name>, Fault>
-    ensures read { ReadPost S.Store store.old store.new result (λ name t. MatchOption name (is_none (security_row_with_symbol t symbol.now)
+fn symbol_name<S: Alter>(store: &mut Store<S>, symbol: &Symbol) -> Result<Option<Name>, CallFault>
+    ensures { ReadPost S.Store store.old store.new result (λ name t. MatchOption name (is_none (security_row_with_symbol t symbol.now)
         ≡ true) (SecurityHasName t symbol.now)) }
-    ensures fault { IfErr result IsCallFault }
 {
     match store.security(symbol)? {
         Some(security) => Ok(Some(security.name)),
@@ -121,9 +114,8 @@ pub(crate) fn cash_name_facts<S: Alter>(
     store: &mut Store<S>,
     symbol: &Symbol,
     span: Span,
-) -> Result<Option<TextUpdate>, Fault>
-    ensures read { ReadPost S.Store store.old store.new result (λ found t. UpdateFactsMatchTables t (update.CashNames symbol.now span) found) }
-    ensures fault { IfErr result IsCallFault }
+) -> Result<Option<TextUpdate>, CallFault>
+    ensures { ReadPost S.Store store.old store.new result (λ found t. UpdateFactsMatchTables t (update.CashNames symbol.now span) found) }
 {
     let Some(name) = symbol_name(store, symbol)? else {
         return Ok(None);

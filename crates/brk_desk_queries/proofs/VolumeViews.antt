@@ -11,7 +11,7 @@ use Rattle.brk_model.specs.Ask.{view_of_base, ask, checks_of_query}
 use Rattle.brk_model.specs.Lists.{distinct_texts, sort_by}
 use Rattle.brk_model.specs.Queries.{VolumeOf}
 use Rattle.brk_model.specs.Sheets.{sheets}
-use Rattle.brk_model.specs.Tables.{BrokerRow, RequestRow, Tables}
+use Rattle.brk_model.specs.Tables.{BrokerRow, Tables}
 use Rattle.brk_model.specs.Views.{view_of_tables}
 use Rattle.brk_model.specs.VolumeView.{is_before_by_volume, sector_requests_of_broker, broker_volume_view}
 use Rattle.brk_trade_books.proofs.Places.{filter-append}

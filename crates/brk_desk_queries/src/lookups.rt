@@ -1,15 +1,14 @@
 //! Views of selected trades with their settlements, cash rows and histories.
 
-ghost use Rattle.std.specs.Prelude.{IfErr, map};
+ghost use Rattle.std.specs.Prelude.{map};
 ghost use Rattle.brk_ref.specs.Rows.{abstract_trade_row};
 ghost use Rattle.brk_desk_queries.specs.LookedUp.{HaveAllRowsOfTrades, HasAllRowsOfTrade};
 ghost use Rattle.brk_desk_queries.specs.QueryResults.{AnswersQueryAsModel};
 ghost use Rattle.brk_model.specs.Queries.{TradesOfAccount, TradesOfSymbol, TradesWith};
-ghost use Rattle.brk_model.specs.Run.{IsCallFault};
 ghost use Rattle.brk_store_transactions.specs.Holds.{ReadPost};
 ghost use Rattle.brk_store.specs.ReadSequences.{ReadSequencePost};
 
-use brk_money::{Fault, Id, Planned, Refusal};
+use brk_money::{CallFault, Id, Planned, Refusal};
 use brk_ref::{Span, Symbol, TradeRow};
 use brk_store::{Store, read_trades_by_ids};
 use brk_view_rows::{
@@ -25,23 +24,22 @@ fn look_up_trade<S: Alter>(
     alloc: Global,
     store: &mut Store<S>,
     trade: TradeRow,
-) -> Result<LookedUp, Fault>
-    ensures read { ReadPost S.Store store.old store.new result (HasAllRowsOfTrade (abstract_trade_row trade)) }
-    ensures fault { IfErr result IsCallFault }
+) -> Result<LookedUp, CallFault>
+    ensures { ReadPost S.Store store.old store.new result (HasAllRowsOfTrade (abstract_trade_row trade)) }
 {
     let settlement = store.settlement(trade.id)?;
     let cash = store.cash_row(trade.id)?;
     let history = store.history_of_trade(alloc, trade.id)?;
-    create_looked_up_trade(alloc, trade, settlement, cash, &history)
+    let found = create_looked_up_trade(alloc, trade, settlement, cash, &history)?;
+    Ok(found)
 }
 
 fn look_up_trades<S: Alter>(
     alloc: Global,
     store: &mut Store<S>,
     trades: Vec<TradeRow>,
-) -> Result<Vec<LookedUp>, Fault>
-    ensures read { ReadSequencePost S.Store store.old store.new result (λ found. HaveAllRowsOfTrades (map abstract_trade_row trades.items) found.items) }
-    ensures fault { IfErr result IsCallFault }
+) -> Result<Vec<LookedUp>, CallFault>
+    ensures { ReadSequencePost S.Store store.old store.new result (λ found. HaveAllRowsOfTrades (map abstract_trade_row trades.items) found.items) }
 {
     let mut rest = trades;
     let mut found = Vec::new(alloc);
@@ -60,9 +58,8 @@ pub fn view_by_ids<S: Alter>(
     alloc: Global,
     store: &mut Store<S>,
     trades: &NamedTrades,
-) -> Planned<View>
-    ensures read { ReadPost S.Store store.old store.new result (AnswersQueryAsModel (TradesWith trades.now.trades)) }
-    ensures fault { IfErr result IsCallFault }
+) -> Planned<View, CallFault>
+    ensures { ReadPost S.Store store.old store.new result (AnswersQueryAsModel (TradesWith trades.now.trades)) }
 {
     // The value is not needed: the read succeeds only if the store is open.
     let _last = store.last_stamp()?;
@@ -82,9 +79,8 @@ pub fn view_by_account<S: Alter>(
     store: &mut Store<S>,
     account: Id,
     span: Span,
-) -> Planned<View>
-    ensures read { ReadPost S.Store store.old store.new result (AnswersQueryAsModel (TradesOfAccount account span.first span.last)) }
-    ensures fault { IfErr result IsCallFault }
+) -> Planned<View, CallFault>
+    ensures { ReadPost S.Store store.old store.new result (AnswersQueryAsModel (TradesOfAccount account span.first span.last)) }
 {
     let Some(_row) = store.account(account)? else {
         return Ok(Err(Refusal::NoAccount));
@@ -102,9 +98,8 @@ pub fn view_by_symbol<S: Alter>(
     store: &mut Store<S>,
     symbol: &Symbol,
     span: Span,
-) -> Planned<View>
-    ensures read { ReadPost S.Store store.old store.new result (AnswersQueryAsModel (TradesOfSymbol symbol.now span.first span.last)) }
-    ensures fault { IfErr result IsCallFault }
+) -> Planned<View, CallFault>
+    ensures { ReadPost S.Store store.old store.new result (AnswersQueryAsModel (TradesOfSymbol symbol.now span.first span.last)) }
 {
     let Some(_row) = store.security(symbol)? else {
         return Ok(Err(Refusal::NoSecurity));

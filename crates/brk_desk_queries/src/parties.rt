@@ -1,27 +1,25 @@
 //! The parties of an account: its customer and its broker. If one of them does not exist, the fault
 //! is `Store`.
 
-ghost use Rattle.std.specs.Prelude.{◌≡◌, IfErr};
+ghost use Rattle.std.specs.Prelude.{◌≡◌};
 ghost use Rattle.brk_desk_queries.specs.Parties.{IsAccountStatusWithTrades};
-ghost use Rattle.brk_model.specs.Run.{IsCallFault};
 ghost use Rattle.brk_model.specs.StatusView.{broker_name_with_id};
 ghost use Rattle.brk_ref.specs.Records.{abstract_account_row};
 ghost use Rattle.brk_store_transactions.specs.Holds.{ReadPost};
 
-use brk_money::{Fault, Id};
+use brk_money::{CallFault, Id};
 use brk_ref::{AccountRow, Name};
 use brk_store::Store;
 use brk_store_required::require_customer;
 use brk_view_rows::{AccountStatus, TradeStatus};
 use sqlite::Alter;
 
-fn require_name<S: Alter>(store: &mut Store<S>, id: Id) -> Result<Name, Fault>
-    ensures read { ReadPost S.Store store.old store.new result (λ name t. name ≡ broker_name_with_id t id) }
-    ensures fault { IfErr result IsCallFault }
+fn require_name<S: Alter>(store: &mut Store<S>, id: Id) -> Result<Name, CallFault>
+    ensures { ReadPost S.Store store.old store.new result (λ name t. name ≡ broker_name_with_id t id) }
 {
     match store.broker(id)? {
         Some(row) => Ok(row.broker.name),
-        None => Err(Fault::Store),
+        None => Err(CallFault::Store),
     }
 }
 
@@ -29,9 +27,8 @@ pub(crate) fn account_status<S: Alter>(
     store: &mut Store<S>,
     row: &AccountRow,
     trades: Vec<TradeStatus>,
-) -> Result<AccountStatus, Fault>
-    ensures read { ReadPost S.Store store.old store.new result (IsAccountStatusWithTrades (abstract_account_row row.now) trades) }
-    ensures fault { IfErr result IsCallFault }
+) -> Result<AccountStatus, CallFault>
+    ensures { ReadPost S.Store store.old store.new result (IsAccountStatusWithTrades (abstract_account_row row.now) trades) }
 {
     let customer = require_customer(store, row.account.customer)?;
     let broker = require_name(store, row.account.broker)?;

@@ -1,11 +1,9 @@
 //! The head of an account's statement.
 
-ghost use Rattle.std.specs.Prelude.{IfErr};
 ghost use Rattle.brk_desk_queries.specs.Heads.{IsStatementHeadOfAccount};
-ghost use Rattle.brk_model.specs.Run.{IsCallFault};
 ghost use Rattle.brk_store_transactions.specs.Holds.{ReadPost};
 
-use brk_money::{Cents, Fault, Id, Wide};
+use brk_money::{CallFault, Cents, Id, Wide};
 use brk_ref::Name;
 use brk_store::Store;
 use brk_store_required::read_holdings_value;
@@ -30,9 +28,8 @@ pub fn account_head<S: Alter>(
     alloc: Global,
     store: &mut Store<S>,
     account: Id,
-) -> Result<Option<Head>, Fault>
-    ensures read { ReadPost S.Store store.old store.new result (IsStatementHeadOfAccount account) }
-    ensures fault { IfErr result IsCallFault }
+) -> Result<Option<Head>, CallFault>
+    ensures { ReadPost S.Store store.old store.new result (IsStatementHeadOfAccount account) }
 {
     let Some(row) = store.account(account)? else {
         return Ok(None);

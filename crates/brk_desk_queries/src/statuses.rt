@@ -1,32 +1,32 @@
 //! The view of an account's parties and its last trades.
 
-ghost use Rattle.std.specs.Prelude.{◌≡◌, Err, IfErr, IfOk, OnErr, bytes_eq, find, map, option_map, take};
+ghost use Rattle.std.specs.Prelude.{◌≡◌, IfOk, bytes_eq, find, map, option_map, take};
 ghost use Rattle.brk_ref.specs.Rows.{abstract_trade_row};
 ghost use Rattle.brk_desk_queries.specs.QueryResults.{AnswersQueryAsModel};
 ghost use Rattle.brk_model.specs.Joins.{trade_rows_recent_first, trade_rows_of_account};
 ghost use Rattle.brk_model.specs.Queries.{StatusOf};
-ghost use Rattle.brk_model.specs.Run.{IsCallFault};
-ghost use Rattle.brk_money.specs.declared.fault.Fault.TheVariants.{Memory};
 ghost use Rattle.brk_store_transactions.specs.Holds.{ReadPost};
 ghost use Rattle.brk_view_rows.specs.Status.{rows_of_trade_status, trade_row_with_security};
 
 use crate::parties::account_status;
-use brk_money::{Fault, Id, Planned, Refusal};
+use brk_money::{CallFault, Id, Planned, Refusal};
 use brk_ref::{Security, Symbol, TradeRow};
 use brk_store::Store;
 use brk_view_rows::{TradeStatus, View, status};
 use sqlite::Alter;
-use std::alloc::Global;
+use std::alloc::{AllocError, Global};
 
 // Fails with `Store` also if the security does not exist.
-fn trade_status_of<S: Alter>(store: &mut Store<S>, trade: TradeRow) -> Result<TradeStatus, Fault>
-    ensures read { ReadPost S.Store store.old store.new result (λ status t. rows_of_trade_status status
+fn trade_status_of<S: Alter>(
+    store: &mut Store<S>,
+    trade: TradeRow,
+) -> Result<TradeStatus, CallFault>
+    ensures { ReadPost S.Store store.old store.new result (λ status t. rows_of_trade_status status
         ≡ trade_row_with_security t (abstract_trade_row trade)) }
-    ensures fault { IfErr result IsCallFault }
 {
     match store.security(&trade.symbol)? {
         Some(security) => Ok(TradeStatus { trade, security }),
-        None => Err(Fault::Store),
+        None => Err(CallFault::Store),
     }
 }
 
@@ -36,10 +36,12 @@ fn is_trade_of_symbol(status: &TradeStatus, symbol: &Symbol) -> bool
     status.trade.symbol.as_str() == symbol.as_str()
 }
 
-fn security_of_symbol(statuses: &[TradeStatus], symbol: &Symbol) -> Result<Option<Security>, Fault>
-    ensures security { IfOk result (λ security. security
+fn security_of_symbol(
+    statuses: &[TradeStatus],
+    symbol: &Symbol,
+) -> Result<Option<Security>, AllocError>
+    ensures { IfOk result (λ security. security
         ≡ option_map (λ s. s.security) (find (λ s. bytes_eq s.trade.symbol symbol.now) statuses.now)) }
-    ensures fault { OnErr result (result ≡ Err Memory) }
 {
     let Some(status) = statuses
         .iter()
@@ -56,10 +58,9 @@ fn trade_statuses<S: Alter>(
     alloc: Global,
     store: &mut Store<S>,
     account: Id,
-) -> Result<Vec<TradeStatus>, Fault>
-    ensures read { ReadPost S.Store store.old store.new result (λ statuses t. map rows_of_trade_status statuses.items
+) -> Result<Vec<TradeStatus>, CallFault>
+    ensures { ReadPost S.Store store.old store.new result (λ statuses t. map rows_of_trade_status statuses.items
         ≡ map (trade_row_with_security t) (take 50 (trade_rows_recent_first (trade_rows_of_account t account)))) }
-    ensures fault { IfErr result IsCallFault }
 {
     let mut rest = store.last_fifty_trades(alloc, account)?;
     let mut statuses = Vec::new(alloc);
@@ -79,9 +80,12 @@ fn trade_statuses<S: Alter>(
 /// with their securities, sorted by the stamp of the last status, then by id, descending. Refuses
 /// an unknown account with `NoAccount`. Fails with `Store` also if the customer, the broker or one
 /// of the securities does not exist.
-pub fn status_view<S: Alter>(alloc: Global, store: &mut Store<S>, account: Id) -> Planned<View>
-    ensures read { ReadPost S.Store store.old store.new result (AnswersQueryAsModel (StatusOf account)) }
-    ensures fault { IfErr result IsCallFault }
+pub fn status_view<S: Alter>(
+    alloc: Global,
+    store: &mut Store<S>,
+    account: Id,
+) -> Planned<View, CallFault>
+    ensures { ReadPost S.Store store.old store.new result (AnswersQueryAsModel (StatusOf account)) }
 {
     let Some(row) = store.account(account)? else {
         return Ok(Err(Refusal::NoAccount));

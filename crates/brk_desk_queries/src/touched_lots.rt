@@ -1,27 +1,25 @@
 //! The view of the changes of the lots that a trade touched.
 
-ghost use Rattle.std.specs.Prelude.{◌≡◌, ◌==◌, IfErr, filter, map};
+ghost use Rattle.std.specs.Prelude.{◌≡◌, ◌==◌, filter, map};
 ghost use Rattle.brk_desk_queries.specs.QueryResults.{AnswersQueryAsModel};
 ghost use Rattle.brk_desk_queries.specs.Touched.{AreTouchedLotsOfTrade, last_status_stamp};
 ghost use Rattle.brk_model.specs.Queries.{LotsTouched};
-ghost use Rattle.brk_model.specs.Run.{IsCallFault};
 ghost use Rattle.brk_store_transactions.specs.Holds.{ReadPost};
 ghost use Rattle.brk_view_rows.specs.Lots.{stamped_lot_change};
 
-use brk_money::{Fault, Id, Planned, Refusal, Stamp};
+use brk_money::{CallFault, Id, Planned, Refusal, Stamp};
 use brk_store::Store;
 use brk_view_rows::{LotTouch, TouchedLots, View, lookup_lots, merge_touches};
 use sqlite::Alter;
 use std::alloc::Global;
 
 // Fails with `Store` also if the trade does not exist.
-fn require_stamp<S: Alter>(store: &mut Store<S>, trade: Id) -> Result<Stamp, Fault>
-    ensures read { ReadPost S.Store store.old store.new result (λ stamp t. stamp ≡ last_status_stamp t trade) }
-    ensures fault { IfErr result IsCallFault }
+fn require_stamp<S: Alter>(store: &mut Store<S>, trade: Id) -> Result<Stamp, CallFault>
+    ensures { ReadPost S.Store store.old store.new result (λ stamp t. stamp ≡ last_status_stamp t trade) }
 {
     match store.trade(trade)? {
         Some(row) => Ok(row.stamp),
-        None => Err(Fault::Store),
+        None => Err(CallFault::Store),
     }
 }
 
@@ -30,10 +28,9 @@ fn lot_touches<S: Alter>(
     alloc: Global,
     store: &mut Store<S>,
     lot: Id,
-) -> Result<Vec<LotTouch>, Fault>
-    ensures read { ReadPost S.Store store.old store.new result (λ touches t. touches.items
+) -> Result<Vec<LotTouch>, CallFault>
+    ensures { ReadPost S.Store store.old store.new result (λ touches t. touches.items
         ≡ map (stamped_lot_change t) (filter (λ r. r.lot == lot) t.holding_history)) }
-    ensures fault { IfErr result IsCallFault }
 {
     let rows = store.lot_changes_of_lot(alloc, lot)?;
     let mut touches = Vec::new(alloc);
@@ -52,9 +49,8 @@ fn lots_touched<S: Alter>(
     alloc: Global,
     store: &mut Store<S>,
     trade: Id,
-) -> Result<TouchedLots, Fault>
-    ensures read { ReadPost S.Store store.old store.new result (AreTouchedLotsOfTrade trade) }
-    ensures fault { IfErr result IsCallFault }
+) -> Result<TouchedLots, CallFault>
+    ensures { ReadPost S.Store store.old store.new result (AreTouchedLotsOfTrade trade) }
 {
     let mut rest = store.lot_changes_by_trade(alloc, trade)?;
     let mut kept = Vec::new(alloc);
@@ -78,9 +74,8 @@ pub fn touched_view<S: Alter>(
     store: &mut Store<S>,
     account: Id,
     first: Stamp,
-) -> Planned<View>
-    ensures read { ReadPost S.Store store.old store.new result (AnswersQueryAsModel (LotsTouched account first)) }
-    ensures fault { IfErr result IsCallFault }
+) -> Planned<View, CallFault>
+    ensures { ReadPost S.Store store.old store.new result (AnswersQueryAsModel (LotsTouched account first)) }
 {
     let Some(_row) = store.account(account)? else {
         return Ok(Err(Refusal::NoAccount));

@@ -1,18 +1,17 @@
 //! The view of the brokers' volumes in a sector.
 
-ghost use Rattle.std.specs.Prelude.{◌≡◌, ◌++◌, ◌∷◌, [], IfErr, bytes_eq, filter, flat_map, map};
+ghost use Rattle.std.specs.Prelude.{◌≡◌, ◌++◌, ◌∷◌, [], bytes_eq, filter, flat_map, map};
 ghost use Rattle.brk_ref.specs.Rows.{abstract_request_row};
 ghost use Rattle.brk_desk_queries.specs.QueryResults.{AnswersQueryAsModel};
 ghost use Rattle.brk_desk_queries.specs.Volumes.{is_sector_request_of_broker, is_symbol_in_sector, brokers_of_name_in_sector};
 ghost use Rattle.brk_desk_queries.specs.Volumes.{requests_with_row_if_of_broker_in_sector, volumes_of_brokers_in_sector};
 ghost use Rattle.brk_model.specs.Queries.{VolumeOf};
-ghost use Rattle.brk_model.specs.Run.{IsCallFault};
 ghost use Rattle.brk_ref.specs.Records.{abstract_broker_row};
 ghost use Rattle.brk_store_transactions.specs.Holds.{ReadPost};
 ghost use Rattle.brk_store.specs.ReadSequences.{ReadSequencePost};
 ghost use Rattle.brk_view_rows.specs.Volume as volume;
 
-use brk_money::{Fault, Id, Planned};
+use brk_money::{CallFault, Id, Planned};
 use brk_ref::{BrokerRow, Name, RequestRow, Symbol};
 use brk_store::Store;
 use brk_view_rows::{BrokerNames, BrokerVolume, View, broker_volume, total_bid_value};
@@ -23,9 +22,8 @@ fn is_in_sector<S: Alter>(
     store: &mut Store<S>,
     symbol: &Symbol,
     sector: &Name,
-) -> Result<bool, Fault>
-    ensures read { ReadPost S.Store store.old store.new result (λ is t. is ≡ is_symbol_in_sector t sector.now symbol.now) }
-    ensures fault { IfErr result IsCallFault }
+) -> Result<bool, CallFault>
+    ensures { ReadPost S.Store store.old store.new result (λ is t. is ≡ is_symbol_in_sector t sector.now symbol.now) }
 {
     match store.security(symbol)? {
         Some(security) => Ok(security.sector.as_str() == sector.as_str()),
@@ -39,10 +37,9 @@ fn append_request<S: Alter>(
     broker: Id,
     row: &RequestRow,
     found: &mut Vec<RequestRow>,
-) -> Result<(), Fault>
-    ensures read { ReadSequencePost S.Store store.old store.new result (λ _ t. found.new.items
+) -> Result<(), CallFault>
+    ensures { ReadSequencePost S.Store store.old store.new result (λ _ t. found.new.items
         ≡ requests_with_row_if_of_broker_in_sector t sector.now broker row.now found.old.items) }
-    ensures fault { IfErr result IsCallFault }
 {
     if row.broker != broker {
         return Ok(());
@@ -68,10 +65,9 @@ fn sector_requests<S: Alter>(
     sector: &Name,
     requests: &[RequestRow],
     broker: Id,
-) -> Result<Vec<RequestRow>, Fault>
-    ensures read { ReadSequencePost S.Store store.old store.new result (λ found t. map abstract_request_row found.items
+) -> Result<Vec<RequestRow>, CallFault>
+    ensures { ReadSequencePost S.Store store.old store.new result (λ found t. map abstract_request_row found.items
         ≡ filter (is_sector_request_of_broker t sector.now broker) (map abstract_request_row requests.now)) }
-    ensures fault { IfErr result IsCallFault }
 {
     let mut found = Vec::new(alloc);
     for row in requests {
@@ -89,10 +85,9 @@ fn append_volume<S: Alter>(
     requests: &[RequestRow],
     row: &BrokerRow,
     found: &mut Vec<BrokerVolume>,
-) -> Result<(), Fault>
-    ensures read { ReadSequencePost S.Store store.old store.new result (λ _ t. map abstract_request_row requests.now ≡ t.requests → found.new.items
+) -> Result<(), CallFault>
+    ensures { ReadSequencePost S.Store store.old store.new result (λ _ t. map abstract_request_row requests.now ≡ t.requests → found.new.items
         ≡ found.old.items ++ volumes_of_brokers_in_sector t sector.now (abstract_broker_row row.now ∷ [])) }
-    ensures fault { IfErr result IsCallFault }
 {
     let mine = sector_requests(alloc, store, sector, requests, row.broker.id)?;
     if mine.is_empty() {
@@ -115,10 +110,9 @@ fn append_volumes<S: Alter>(
     requests: &[RequestRow],
     name: &Name,
     found: &mut Vec<BrokerVolume>,
-) -> Result<(), Fault>
-    ensures read { ReadPost S.Store store.old store.new result (λ _ t. map abstract_request_row requests.now ≡ t.requests → found.new.items
+) -> Result<(), CallFault>
+    ensures { ReadPost S.Store store.old store.new result (λ _ t. map abstract_request_row requests.now ≡ t.requests → found.new.items
         ≡ found.old.items ++ volumes_of_brokers_in_sector t sector.now (filter (λ b. bytes_eq b.name name.now) t.brokers)) }
-    ensures fault { IfErr result IsCallFault }
 {
     let rows = store.brokers_named(alloc, name)?;
     for row in &rows {
@@ -133,10 +127,9 @@ fn named_volumes<S: Alter>(
     store: &mut Store<S>,
     sector: &Name,
     names: &[Name],
-) -> Result<Vec<BrokerVolume>, Fault>
-    ensures read { ReadPost S.Store store.old store.new result (λ found t. found.items
+) -> Result<Vec<BrokerVolume>, CallFault>
+    ensures { ReadPost S.Store store.old store.new result (λ found t. found.items
         ≡ map (volume.volume_of_broker_in_sector t sector.now) (flat_map (brokers_of_name_in_sector t sector.now) names.now)) }
-    ensures fault { IfErr result IsCallFault }
 {
     let requests = store.all_trade_requests(alloc)?;
     let mut found = Vec::new(alloc);
@@ -154,12 +147,13 @@ pub fn volume_view<S: Alter>(
     store: &mut Store<S>,
     sector: &Name,
     names: &BrokerNames,
-) -> Planned<View>
-    ensures read { ReadPost S.Store store.old store.new result (AnswersQueryAsModel (VolumeOf sector.now names.now)) }
-    ensures fault { IfErr result IsCallFault }
+) -> Planned<View, CallFault>
+    ensures { ReadPost S.Store store.old store.new result (AnswersQueryAsModel (VolumeOf sector.now names.now)) }
 {
     let names = names.names();
     let found = named_volumes(alloc, store, sector, names)?;
-    let view = broker_volume(alloc, found)?;
-    Ok(Ok(view))
+    match broker_volume(alloc, found) {
+        Ok(view) => Ok(Ok(view)),
+        Err(_) => Err(CallFault::Memory),
+    }
 }

@@ -36,6 +36,7 @@ use Rattle.brk_explain.specs.ExplanationParts.{all_broker_lines, all_account_lin
 use Rattle.brk_explain.specs.LinesOutput.{WritesLinesOrRefuses}
 use Rattle.brk_explain.proofs.FirstLines.{HasFirst, first_behind}
 use Rattle.brk_report.proofs.Whole.{passes_found}
+use Rattle.brk_desk.proofs.Asked.{is_call_fault}
 
 -- ---- a trade
 
@@ -148,5 +149,5 @@ module _ (told : Result (List Text) Refusal) (lines : List Text) (is : told ≡ 
   tells_all h = (lines, is, h)
 
   pub tells_fault : (e : LinesFault) → FailsWithinLines lines a b e → WritesLinesOrRefuses told a b (Err (report_fault_of_lines_fault e))
-  tells_fault (Desk f) h = (h.0, inr (lines, is, h.1))
+  tells_fault (Desk f) h = (is_call_fault f, inr (lines, is, h))
   tells_fault Write h = (lines, is, h)

@@ -1,15 +1,11 @@
 -- Lists of lines that have a first one.
-use Rattle.std.proofs.Common.{◌≡◌, Global, List, [], ◌∷◌, ◌++◌, Option, Result, IfOk, IfErr, refl, subst, sym, ap}
+use Rattle.std.proofs.Common.{◌≡◌, Global, List, [], ◌∷◌, ◌++◌, Option, Result, IfOk, refl, subst, sym, ap}
 use Rattle.std.specs.Prelude.{ℕ, Vec}
 use Rattle.brk_money.specs.Spelling.{Text}
-use Rattle.brk_money.specs.declared.fault.Fault.{Fault}
-use Rattle.brk_model.specs.Run.{IsCallFault}
 use Rattle.brk_model.specs.Statement.{text_of_lines}
 use Rattle.brk_report_lines.specs.Written.{FailsWithinLines, FailsWithinFirstLines, WritesLines}
 use Rattle.brk_io.specs.declared.report_fault.LinesFault.{LinesFault}
 use Rattle.brk_report_lines.proofs.Composed.{breaks_off}
-use Rattle.brk_report.specs.StatementOutput.{IsLinesFaultOtherThanDamage}
-use Rattle.brk_report.proofs.Section.{in_written}
 
 -- the lines have a first one
 abbrev pub HasFirst : List Text → Type 0
@@ -29,15 +25,9 @@ pub breaks_off_before : (xs ys : List Text) (a b : Option Text) (e : LinesFault)
 breaks_off_before xs ys a b e some h = subst (λ (l : List Text). FailsWithinLines (xs ++ l) a b e) some.2 (breaks_off xs some.0 some.1 a b e h)
 
 -- the text of lines is written
-pub text_written : {R : Type 0} (lines : List Text) (text : Result (Vec ℕ Global) Fault) (a b : Option Text) (r : Result R LinesFault) → HasFirst lines
-    → ((line : Text) (rest : List Text) → IfOk text (λ t. t.items ≡ text_of_lines (line ∷ rest)) → IfErr text IsCallFault → WritesLines (line ∷ rest) a b r)
-    → IfOk text (λ t. t.items ≡ text_of_lines lines) → IfErr text IsCallFault → WritesLines lines a b r
-text_written lines text a b r some writes made fails =
+pub text_written : {R E : Type 0} (lines : List Text) (text : Result (Vec ℕ Global) E) (a b : Option Text) (r : Result R LinesFault) → HasFirst lines
+    → ((line : Text) (rest : List Text) → IfOk text (λ t. t.items ≡ text_of_lines (line ∷ rest)) → WritesLines (line ∷ rest) a b r)
+    → IfOk text (λ t. t.items ≡ text_of_lines lines) → WritesLines lines a b r
+text_written lines text a b r some writes made =
     subst (λ (l : List Text). WritesLines l a b r) some.2
-    (writes some.0 some.1 (subst (λ (l : List Text). IfOk text (λ t. t.items ≡ text_of_lines l)) (sym some.2) made) fails)
-
--- the fault of writing the text is one of memory, of the store or of the writer
-pub text_fault : {R : Type 0} (lines : List Text) (text : Result (Vec ℕ Global) Fault) (a b : Option Text) (r : Result R LinesFault) → HasFirst lines
-    → ((line : Text) (rest : List Text) → IfOk text (λ t. t.items ≡ text_of_lines (line ∷ rest)) → IfErr text IsCallFault → WritesLines (line ∷ rest) a b r)
-    → IfOk text (λ t. t.items ≡ text_of_lines lines) → IfErr text IsCallFault → IfErr r IsLinesFaultOtherThanDamage
-text_fault lines text a b r some writes made fails = in_written lines a b r (text_written lines text a b r some writes made fails)
+    (writes some.0 some.1 (subst (λ (l : List Text). IfOk text (λ t. t.items ≡ text_of_lines l)) (sym some.2) made))

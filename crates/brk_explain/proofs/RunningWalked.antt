@@ -53,16 +53,13 @@ module _ {S X M V : Type 0} (g : Ghosts S) (old new : Held S) (of : X → M) (li
   pub rows_first : (stop : WalkError LinesFault) → result ≡ Err stop → FailsWithinFirstLines (rows (total before) (list t)) (contents before) (contents after) (fault_of_walk_error stop)
   rows_first (Failed fault) e =
       let h = rw e at (walked.early clean) in
-      let b = h.1.2 t holds in
-      let ms = map of h.1.0 in (
-        h.0,
-        (
-          rows (total before) ms,
-          rows (total_after amount (total before) ms) b.0,
-          sym (rows_parts amount line (total before) ms b.0)
-              ∙ ap (rows (total before)) b.1,
-          (taken before h.1.0 after h.1.1).0,
-        ),
+      let b = h.2 t holds in
+      let ms = map of h.0 in (
+        rows (total before) ms,
+        rows (total_after amount (total before) ms) b.0,
+        sym (rows_parts amount line (total before) ms b.0)
+            ∙ ap (rows (total before)) b.1,
+        (taken before h.0 after h.1).0,
       )
   rows_first (Cause fault) e =
       let h = rw e at (walked.early clean) in

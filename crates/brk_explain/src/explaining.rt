@@ -1,11 +1,10 @@
 //! The explanations, from the facts that the desk reads to the lines that are written.
 
-ghost use Rattle.std.specs.Prelude.{IfErr};
 ghost use Rattle.brk_explain.specs.Requests.{abstract_explain_request};
 ghost use Rattle.brk_explain.specs.ExplanationParts.{all_broker_lines, all_account_lines};
 ghost use Rattle.brk_explain.specs.LinesOutput.{WriteLinesPost};
 ghost use Rattle.brk_model_explain.specs.Explain.{TradeOf, AccountOf, HoldingOf, BrokerOf, explanation};
-ghost use Rattle.brk_report.specs.StatementOutput.{PreservesDesk, IsLinesFaultOtherThanDamage, HoldsForStoredTables};
+ghost use Rattle.brk_report.specs.StatementOutput.{PreservesDesk, HoldsForStoredTables};
 ghost use Rattle.brk_report_lines.specs.Written.{WritesLines};
 
 use crate::parse::ExplainRequest;
@@ -33,7 +32,7 @@ fn write_trade<W: Write, S: Alter>(
     let details = match desk.trade_details(alloc, trade) {
         Ok(Some(details)) => details,
         Ok(None) => return Err(ReportFault::Refused(Refusal::NoTrade)),
-        Err(fault) => return Err(ReportFault::Desk(fault)),
+        Err(fault) => return Err(ReportFault::Desk(fault.into())),
     };
     write_lines(writer, explained_trade(alloc, &details))?;
     Ok(())
@@ -48,7 +47,6 @@ fn write_account_lines<W: Write, S: Alter>(
     writer: &mut W,
 ) -> Result<(), LinesFault>
     ensures keeps { PreservesDesk S.Store desk.old desk.new }
-    ensures fault { IfErr result IsLinesFaultOtherThanDamage }
     ensures written { HoldsForStoredTables S.Store desk.old desk.new
         (λ t. WritesLines (all_account_lines t account details.now) (W.contents writer.old) (W.contents writer.new) result) }
 {
@@ -71,7 +69,7 @@ fn write_account<W: Write, S: Alter>(
     let details = match desk.account_details(alloc, account) {
         Ok(Some(details)) => details,
         Ok(None) => return Err(ReportFault::Refused(Refusal::NoAccount)),
-        Err(fault) => return Err(ReportFault::Desk(fault)),
+        Err(fault) => return Err(ReportFault::Desk(fault.into())),
     };
     write_account_lines(alloc, desk, account, &details, writer)?;
     Ok(())
@@ -91,7 +89,7 @@ fn write_holding<W: Write, S: Alter>(
     let details = match desk.holding_details(alloc, account, symbol) {
         Ok(Ok(details)) => details,
         Ok(Err(refusal)) => return Err(ReportFault::Refused(refusal)),
-        Err(fault) => return Err(ReportFault::Desk(fault)),
+        Err(fault) => return Err(ReportFault::Desk(fault.into())),
     };
     write_lines(writer, explained_holding(alloc, &details))?;
     Ok(())
@@ -106,7 +104,6 @@ fn write_broker_lines<W: Write, S: Alter>(
     writer: &mut W,
 ) -> Result<(), LinesFault>
     ensures keeps { PreservesDesk S.Store desk.old desk.new }
-    ensures fault { IfErr result IsLinesFaultOtherThanDamage }
     ensures written { HoldsForStoredTables S.Store desk.old desk.new
         (λ t. WritesLines (all_broker_lines t broker details.now) (W.contents writer.old) (W.contents writer.new) result) }
 {
@@ -130,7 +127,7 @@ fn write_broker<W: Write, S: Alter>(
     let details = match desk.broker_details(alloc, broker) {
         Ok(Some(details)) => details,
         Ok(None) => return Err(ReportFault::Refused(Refusal::NoBroker)),
-        Err(fault) => return Err(ReportFault::Desk(fault)),
+        Err(fault) => return Err(ReportFault::Desk(fault.into())),
     };
     write_broker_lines(alloc, desk, broker, &details, writer)?;
     Ok(())

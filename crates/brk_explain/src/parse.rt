@@ -1,15 +1,14 @@
 //! Requests for explanations, and their words on a command line.
 
-ghost use Rattle.std.specs.Prelude.{◌≡◌, ◌∷◌, Err, IfOk, OnErr};
+ghost use Rattle.std.specs.Prelude.{◌∷◌, IfOk};
 ghost use Rattle.brk_explain.specs.Requests.{abstract_explain_request};
 ghost use Rattle.brk_model_explain.specs.Explain as model;
 ghost use Rattle.brk_model.specs.Parse.{read_and_wrap};
-ghost use Rattle.brk_money.specs.declared.fault.Fault.TheVariants.{Memory};
 ghost use Rattle.brk_ref.specs.Fields.{ParsesAs, texts_of_fields};
 
 use brk_money::{Id, Planned, Refusal};
 use brk_ref::{Symbol, parse_id};
-use std::alloc::Global;
+use std::alloc::{AllocError, Global};
 
 /// A request for an explanation: of a trade, an account, a holding or a broker.
 #[derive(Drop)]
@@ -63,9 +62,8 @@ fn broker_asked(words: &[&[u8]]) -> Result<ExplainRequest, Refusal>
     }
 }
 
-fn holding_asked(alloc: Global, words: &[&[u8]]) -> Planned<ExplainRequest>
-    ensures read { IfOk result (λ read. ParsesAs abstract_explain_request read (model.read_holding_request (texts_of_fields words.now))) }
-    ensures fault { OnErr result (result ≡ Err Memory) }
+fn holding_asked(alloc: Global, words: &[&[u8]]) -> Planned<ExplainRequest, AllocError>
+    ensures { IfOk result (λ read. ParsesAs abstract_explain_request read (model.read_holding_request (texts_of_fields words.now))) }
 {
     let [account, symbol] = words else {
         return Ok(Err(Refusal::BadText));
@@ -81,9 +79,12 @@ fn holding_asked(alloc: Global, words: &[&[u8]]) -> Planned<ExplainRequest>
 
 // `form` is the first word, `words` has the others.
 #[tactic(auto, unfolding(brk_model_explain::specs::Explain::read_explain_request))]
-fn request_of_kind(alloc: Global, form: &[u8], words: &[&[u8]]) -> Planned<ExplainRequest>
-    ensures read { IfOk result (λ read. ParsesAs abstract_explain_request read (model.read_explain_request (form.now ∷ texts_of_fields words.now))) }
-    ensures fault { OnErr result (result ≡ Err Memory) }
+fn request_of_kind(
+    alloc: Global,
+    form: &[u8],
+    words: &[&[u8]],
+) -> Planned<ExplainRequest, AllocError>
+    ensures { IfOk result (λ read. ParsesAs abstract_explain_request read (model.read_explain_request (form.now ∷ texts_of_fields words.now))) }
 {
     if form == b"trade".as_slice() {
         return Ok(trade_asked(words));
@@ -103,9 +104,8 @@ fn request_of_kind(alloc: Global, form: &[u8], words: &[&[u8]]) -> Planned<Expla
 /// Reads a request from the words `trade ID`, `account ID`, `holding ACCOUNT SYMBOL` or `broker
 /// ID`. Refuses all others with `BadText`.
 #[tactic(auto, unfolding(brk_model_explain::specs::Explain::read_explain_request))]
-pub fn parse_explain(alloc: Global, words: &[&[u8]]) -> Planned<ExplainRequest>
-    ensures read { IfOk result (λ read. ParsesAs abstract_explain_request read (model.read_explain_request (texts_of_fields words.now))) }
-    ensures fault { OnErr result (result ≡ Err Memory) }
+pub fn parse_explain(alloc: Global, words: &[&[u8]]) -> Planned<ExplainRequest, AllocError>
+    ensures { IfOk result (λ read. ParsesAs abstract_explain_request read (model.read_explain_request (texts_of_fields words.now))) }
 {
     let [form, rest @ ..] = words else {
         return Ok(Err(Refusal::BadText));

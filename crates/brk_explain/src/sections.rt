@@ -2,12 +2,12 @@
 //! with the number of its rows. After `Desk` only whole lines are written, after `Write` also a
 //! prefix of the next one.
 
-ghost use Rattle.std.specs.Prelude.{IfErr, length};
+ghost use Rattle.std.specs.Prelude.{length};
 ghost use Rattle.brk_explain.specs.ExplanationParts.{WritesCountedLines, account_cash_lines, broker_trade_lines, account_lot_lines};
 ghost use Rattle.brk_model_explain.specs.AccountLines.{account_cash_rows_by_stamp};
 ghost use Rattle.brk_model_explain.specs.BrokerLines.{completed_trades_of_broker};
 ghost use Rattle.brk_model.specs.Statement.{holding_rows_of_account};
-ghost use Rattle.brk_report.specs.StatementOutput.{PreservesDesk, IsLinesFaultOtherThanDamage, HoldsForStoredTables};
+ghost use Rattle.brk_report.specs.StatementOutput.{PreservesDesk, HoldsForStoredTables};
 
 use crate::visitors::{CashPostingWriter, OpenLotWriter, TradeCommissionWriter};
 use brk_desk::Desk;
@@ -28,7 +28,6 @@ pub(crate) fn write_postings<W: Write, S: Alter>(
     writer: &mut W,
 ) -> Result<u64, LinesFault>
     ensures keeps { PreservesDesk S.Store desk.old desk.new }
-    ensures fault { IfErr result IsLinesFaultOtherThanDamage }
     ensures written { HoldsForStoredTables S.Store desk.old desk.new
         (λ t. WritesCountedLines (account_cash_lines t account opening) (length (account_cash_rows_by_stamp t account))
         (W.contents writer.old) (W.contents writer.new) result) }
@@ -54,7 +53,6 @@ pub(crate) fn write_open_lots<W: Write, S: Alter>(
     writer: &mut W,
 ) -> Result<u64, LinesFault>
     ensures keeps { PreservesDesk S.Store desk.old desk.new }
-    ensures fault { IfErr result IsLinesFaultOtherThanDamage }
     ensures written { HoldsForStoredTables S.Store desk.old desk.new
         (λ t. WritesCountedLines (account_lot_lines t account) (length (holding_rows_of_account t account))
         (W.contents writer.old) (W.contents writer.new) result) }
@@ -78,7 +76,6 @@ pub(crate) fn write_commissions<W: Write, S: Alter>(
     writer: &mut W,
 ) -> Result<u64, LinesFault>
     ensures keeps { PreservesDesk S.Store desk.old desk.new }
-    ensures fault { IfErr result IsLinesFaultOtherThanDamage }
     ensures written { HoldsForStoredTables S.Store desk.old desk.new
         (λ t. WritesCountedLines (broker_trade_lines t broker) (length (completed_trades_of_broker t broker))
         (W.contents writer.old) (W.contents writer.new) result) }

@@ -5,7 +5,7 @@
 use brk_desk::Visitor;
 use brk_explain_lines::{open_lot_text, posting_text};
 use brk_explain_sums::commission_text;
-use brk_money::{Fault, Wide};
+use brk_money::{CallFault, Wide};
 use brk_ref::{CashRow, HoldingRow, TradeRow};
 use brk_report::totals::{plus_amount, plus_commission};
 use brk_report_lines::{LinesFault, write_line};
@@ -43,7 +43,7 @@ impl<W: Write> Visitor<CashRow, LinesFault> for CashPostingWriter<'_, W> {
     fn visit(&mut self, item: &CashRow) -> Result<(), LinesFault> {
         let balance = plus_amount(self.balance, item.amount)?;
         let Some(count) = self.count.checked_add(1) else {
-            return Err(LinesFault::Desk(Fault::Store));
+            return Err(LinesFault::Desk(CallFault::Store));
         };
         write_line(self.writer, posting_text(self.alloc, item, balance))?;
         self.balance = balance;
@@ -83,7 +83,7 @@ impl<W: Write> Visitor<HoldingRow, LinesFault> for OpenLotWriter<'_, W> {
 
     fn visit(&mut self, item: &HoldingRow) -> Result<(), LinesFault> {
         let Some(count) = self.count.checked_add(1) else {
-            return Err(LinesFault::Desk(Fault::Store));
+            return Err(LinesFault::Desk(CallFault::Store));
         };
         write_line(self.writer, open_lot_text(self.alloc, item))?;
         self.count = count;
@@ -128,7 +128,7 @@ impl<W: Write> Visitor<TradeRow, LinesFault> for TradeCommissionWriter<'_, W> {
     fn visit(&mut self, item: &TradeRow) -> Result<(), LinesFault> {
         let total = plus_commission(self.total, item.commission)?;
         let Some(count) = self.count.checked_add(1) else {
-            return Err(LinesFault::Desk(Fault::Store));
+            return Err(LinesFault::Desk(CallFault::Store));
         };
         write_line(self.writer, commission_text(self.alloc, item, total))?;
         self.total = total;

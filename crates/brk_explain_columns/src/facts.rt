@@ -3,22 +3,20 @@
 //! only, and may then have appended a part.
 
 ghost use Rattle.std.specs.Fmt.{signed_decimal};
-ghost use Rattle.std.specs.Prelude.{◌≡◌, ◌++◌, ◌∷◌, [], Err, OnErr, OnOk};
+ghost use Rattle.std.specs.Prelude.{◌≡◌, ◌++◌, ◌∷◌, [], OnOk};
 ghost use Rattle.brk_model_explain.specs.Texts as texts;
 ghost use Rattle.brk_model.specs.Statement.{left_aligned_text};
 ghost use Rattle.brk_money.specs.Spelling.{day_text};
-ghost use Rattle.brk_money.specs.declared.fault.Fault.TheVariants.{Memory};
 ghost use Rattle.brk_report_lines.specs.Written.{line_with_line_feed};
 
 use crate::pieces::{align_cents, align_integer, align_number, end_line, put_column, put_text};
-use brk_money::{Day, Fault, Wide, write_day};
+use brk_money::{Day, Wide, append_day};
 use brk_report_lines::append_left;
-use std::alloc::Global;
+use std::alloc::{AllocError, Global};
 
 /// Appends the label and the space after it.
-pub fn put_label(out: &mut Vec<u8>, label: &str) -> Result<(), Fault>
-    ensures ok { OnOk result (out.new.items ≡ out.old.items ++ left_aligned_text 15 label.now ++ 32 ∷ []) }
-    ensures fault { OnErr result (result ≡ Err Memory) }
+pub fn put_label(out: &mut Vec<u8>, label: &str) -> Result<(), AllocError>
+    ensures { OnOk result (out.new.items ≡ out.old.items ++ left_aligned_text 15 label.now ++ 32 ∷ []) }
 {
     append_left(out, 15, label.as_bytes())?;
     out.push(b' ')?;
@@ -26,18 +24,16 @@ pub fn put_label(out: &mut Vec<u8>, label: &str) -> Result<(), Fault>
 }
 
 #[tactic(auto, unfolding(brk_model_explain::specs::Texts::labeled_text))]
-pub fn label_text(out: &mut Vec<u8>, label: &str, text: &[u8]) -> Result<(), Fault>
-    ensures ok { OnOk result (out.new.items ≡ out.old.items ++ texts.labeled_text label.now text.now) }
-    ensures fault { OnErr result (result ≡ Err Memory) }
+pub fn label_text(out: &mut Vec<u8>, label: &str, text: &[u8]) -> Result<(), AllocError>
+    ensures { OnOk result (out.new.items ≡ out.old.items ++ texts.labeled_text label.now text.now) }
 {
     put_label(out, label)?;
     put_text(out, text)
 }
 
 #[tactic(auto, unfolding(brk_model_explain::specs::Texts::labeled_number, brk_model_explain::specs::Texts::labeled_value))]
-pub fn label_number(out: &mut Vec<u8>, label: &str, n: u64) -> Result<(), Fault>
-    ensures ok { OnOk result (out.new.items ≡ out.old.items ++ texts.labeled_number label.now n) }
-    ensures fault { OnErr result (result ≡ Err Memory) }
+pub fn label_number(out: &mut Vec<u8>, label: &str, n: u64) -> Result<(), AllocError>
+    ensures { OnOk result (out.new.items ≡ out.old.items ++ texts.labeled_number label.now n) }
 {
     append_left(out, 15, label.as_bytes())?;
     align_number(out, 22, n)
@@ -50,17 +46,15 @@ pub fn label_amount(
     out: &mut Vec<u8>,
     label: &str,
     amount: Wide,
-) -> Result<(), Fault>
-    ensures ok { OnOk result (out.new.items ≡ out.old.items ++ texts.labeled_amount label.now amount) }
-    ensures fault { OnErr result (result ≡ Err Memory) }
+) -> Result<(), AllocError>
+    ensures { OnOk result (out.new.items ≡ out.old.items ++ texts.labeled_amount label.now amount) }
 {
     append_left(out, 15, label.as_bytes())?;
     align_cents(alloc, out, 22, amount)
 }
 
-pub fn put_text_fact(out: &mut Vec<u8>, label: &str, text: &[u8]) -> Result<(), Fault>
-    ensures ok { OnOk result (out.new.items ≡ out.old.items ++ line_with_line_feed (texts.labeled_text label.now text.now)) }
-    ensures fault { OnErr result (result ≡ Err Memory) }
+pub fn put_text_fact(out: &mut Vec<u8>, label: &str, text: &[u8]) -> Result<(), AllocError>
+    ensures { OnOk result (out.new.items ≡ out.old.items ++ line_with_line_feed (texts.labeled_text label.now text.now)) }
 {
     label_text(out, label, text)?;
     end_line(out)
@@ -68,27 +62,24 @@ pub fn put_text_fact(out: &mut Vec<u8>, label: &str, text: &[u8]) -> Result<(), 
 
 /// Appends the line of a label and a text that is right-aligned as a number would be.
 #[tactic(auto, unfolding(brk_model_explain::specs::Texts::labeled_value))]
-pub fn put_value_fact(out: &mut Vec<u8>, label: &str, value: &[u8]) -> Result<(), Fault>
-    ensures ok { OnOk result (out.new.items ≡ out.old.items ++ line_with_line_feed (texts.labeled_value label.now value.now)) }
-    ensures fault { OnErr result (result ≡ Err Memory) }
+pub fn put_value_fact(out: &mut Vec<u8>, label: &str, value: &[u8]) -> Result<(), AllocError>
+    ensures { OnOk result (out.new.items ≡ out.old.items ++ line_with_line_feed (texts.labeled_value label.now value.now)) }
 {
     append_left(out, 15, label.as_bytes())?;
     put_column(out, 22, value)?;
     end_line(out)
 }
 
-pub fn put_number_fact(out: &mut Vec<u8>, label: &str, n: u64) -> Result<(), Fault>
-    ensures ok { OnOk result (out.new.items ≡ out.old.items ++ line_with_line_feed (texts.labeled_number label.now n)) }
-    ensures fault { OnErr result (result ≡ Err Memory) }
+pub fn put_number_fact(out: &mut Vec<u8>, label: &str, n: u64) -> Result<(), AllocError>
+    ensures { OnOk result (out.new.items ≡ out.old.items ++ line_with_line_feed (texts.labeled_number label.now n)) }
 {
     label_number(out, label, n)?;
     end_line(out)
 }
 
 #[tactic(auto, unfolding(brk_model_explain::specs::Texts::labeled_value))]
-pub fn put_signed_fact(out: &mut Vec<u8>, label: &str, n: i64) -> Result<(), Fault>
-    ensures ok { OnOk result (out.new.items ≡ out.old.items ++ line_with_line_feed (texts.labeled_value label.now (signed_decimal n))) }
-    ensures fault { OnErr result (result ≡ Err Memory) }
+pub fn put_signed_fact(out: &mut Vec<u8>, label: &str, n: i64) -> Result<(), AllocError>
+    ensures { OnOk result (out.new.items ≡ out.old.items ++ line_with_line_feed (texts.labeled_value label.now (signed_decimal n))) }
 {
     append_left(out, 15, label.as_bytes())?;
     align_integer(out, 22, i128::from(n))?;
@@ -100,9 +91,8 @@ pub fn put_amount_fact(
     out: &mut Vec<u8>,
     label: &str,
     amount: Wide,
-) -> Result<(), Fault>
-    ensures ok { OnOk result (out.new.items ≡ out.old.items ++ line_with_line_feed (texts.labeled_amount label.now amount)) }
-    ensures fault { OnErr result (result ≡ Err Memory) }
+) -> Result<(), AllocError>
+    ensures { OnOk result (out.new.items ≡ out.old.items ++ line_with_line_feed (texts.labeled_amount label.now amount)) }
 {
     label_amount(alloc, out, label, amount)?;
     end_line(out)
@@ -110,11 +100,10 @@ pub fn put_amount_fact(
 
 /// Writes the day as YYYY-MM-DD.
 #[tactic(auto, unfolding(brk_model_explain::specs::Texts::labeled_text))]
-pub fn put_day_fact(out: &mut Vec<u8>, label: &str, day: Day) -> Result<(), Fault>
-    ensures ok { OnOk result (out.new.items ≡ out.old.items ++ line_with_line_feed (texts.labeled_text label.now (day_text day))) }
-    ensures fault { OnErr result (result ≡ Err Memory) }
+pub fn put_day_fact(out: &mut Vec<u8>, label: &str, day: Day) -> Result<(), AllocError>
+    ensures { OnOk result (out.new.items ≡ out.old.items ++ line_with_line_feed (texts.labeled_text label.now (day_text day))) }
 {
     put_label(out, label)?;
-    write_day(out, day)?;
+    append_day(out, day)?;
     end_line(out)
 }

@@ -1,12 +1,10 @@
 //! The lines of the explanation of an account. After an error a part of them may be appended.
 
-ghost use Rattle.std.specs.Prelude.{◌≡◌, ◌++◌, ◌∷◌, Err, IfErr, IfOk, OnErr, OnOk, codes, map};
+ghost use Rattle.std.specs.Prelude.{◌≡◌, ◌++◌, ◌∷◌, IfOk, OnOk, codes, map};
 ghost use Rattle.brk_ref.specs.Rows.{abstract_holding_row, abstract_cash_row};
 ghost use Rattle.brk_model_explain.specs.AccountLines as lines;
 ghost use Rattle.brk_explain_rows.specs.Details.{abstract_priced_holding};
-ghost use Rattle.brk_model.specs.Run.{IsCallFault};
 ghost use Rattle.brk_model.specs.Statement.{left_aligned_text, right_aligned_text, text_of_lines};
-ghost use Rattle.brk_money.specs.declared.fault.Fault.TheVariants.{Memory};
 ghost use Rattle.brk_ref.specs.Records.{abstract_account_row};
 ghost use Rattle.brk_report_lines.specs.Written.{line_with_line_feed};
 
@@ -16,15 +14,14 @@ use brk_explain_columns::{
     put_text, put_text_fact, put_text_line, put_title_line, shares_value,
 };
 use brk_explain_rows::PricedHolding;
-use brk_money::{Cents, Fault, Id, Price, Wide};
+use brk_money::{CallFault, Cents, Id, Price, StoreFailed, Wide};
 use brk_ref::{AccountRow, CashRow, HoldingRow};
 use brk_report_lines::{append_left, lot_line};
-use std::alloc::Global;
+use std::alloc::{AllocError, Global};
 
 #[tactic(auto, unfolding(brk_model_explain::specs::AccountLines::account_header_lines))]
-fn put_header(alloc: Global, out: &mut Vec<u8>, row: &AccountRow) -> Result<(), Fault>
-    ensures ok { OnOk result (out.new.items ≡ out.old.items ++ text_of_lines (lines.account_header_lines (abstract_account_row row.now))) }
-    ensures fault { OnErr result (result ≡ Err Memory) }
+fn put_header(alloc: Global, out: &mut Vec<u8>, row: &AccountRow) -> Result<(), AllocError>
+    ensures { OnOk result (out.new.items ≡ out.old.items ++ text_of_lines (lines.account_header_lines (abstract_account_row row.now))) }
 {
     let account = &row.account;
     put_title_line(out, "Account ", account.id)?;
@@ -40,18 +37,16 @@ fn put_header(alloc: Global, out: &mut Vec<u8>, row: &AccountRow) -> Result<(), 
 }
 
 /// Returns the lines before the cash rows, from the title to the column headings.
-pub fn header_text(alloc: Global, row: &AccountRow) -> Result<Vec<u8>, Fault>
-    ensures text { IfOk result (λ text. text.items ≡ text_of_lines (lines.account_header_lines (abstract_account_row row.now))) }
-    ensures fault { OnErr result (result ≡ Err Memory) }
+pub fn header_text(alloc: Global, row: &AccountRow) -> Result<Vec<u8>, AllocError>
+    ensures { IfOk result (λ text. text.items ≡ text_of_lines (lines.account_header_lines (abstract_account_row row.now))) }
 {
     let mut text = Vec::new(alloc);
     put_header(alloc, &mut text, row)?;
     Ok(text)
 }
 
-fn align_trade_id(out: &mut Vec<u8>, trade: Option<Id>) -> Result<(), Fault>
-    ensures ok { OnOk result (out.new.items ≡ out.old.items ++ 32 ∷ right_aligned_text 13 (lines.trade_id_or_hyphen trade)) }
-    ensures fault { OnErr result (result ≡ Err Memory) }
+fn align_trade_id(out: &mut Vec<u8>, trade: Option<Id>) -> Result<(), AllocError>
+    ensures { OnOk result (out.new.items ≡ out.old.items ++ 32 ∷ right_aligned_text 13 (lines.trade_id_or_hyphen trade)) }
 {
     match trade {
         Some(trade) => align_number(out, 13, trade.get()),
@@ -60,9 +55,13 @@ fn align_trade_id(out: &mut Vec<u8>, trade: Option<Id>) -> Result<(), Fault>
 }
 
 #[tactic(auto, unfolding(brk_model_explain::specs::AccountLines::cash_posting_line))]
-fn put_posting(alloc: Global, out: &mut Vec<u8>, row: &CashRow, balance: Wide) -> Result<(), Fault>
-    ensures ok { OnOk result (out.new.items ≡ out.old.items ++ line_with_line_feed (lines.cash_posting_line (abstract_cash_row row.now) balance)) }
-    ensures fault { OnErr result (result ≡ Err Memory) }
+fn put_posting(
+    alloc: Global,
+    out: &mut Vec<u8>,
+    row: &CashRow,
+    balance: Wide,
+) -> Result<(), AllocError>
+    ensures { OnOk result (out.new.items ≡ out.old.items ++ line_with_line_feed (lines.cash_posting_line (abstract_cash_row row.now) balance)) }
 {
     put_dated_word(out, "Posted", row.stamp)?;
     align_number(out, 13, row.id.get())?;
@@ -73,9 +72,8 @@ fn put_posting(alloc: Global, out: &mut Vec<u8>, row: &CashRow, balance: Wide) -
 }
 
 /// Returns the line of a cash row; `balance`, in cents, is the balance after it.
-pub fn posting_text(alloc: Global, row: &CashRow, balance: Wide) -> Result<Vec<u8>, Fault>
-    ensures line { IfOk result (λ line. line.items ≡ line_with_line_feed (lines.cash_posting_line (abstract_cash_row row.now) balance)) }
-    ensures fault { OnErr result (result ≡ Err Memory) }
+pub fn posting_text(alloc: Global, row: &CashRow, balance: Wide) -> Result<Vec<u8>, AllocError>
+    ensures { IfOk result (λ line. line.items ≡ line_with_line_feed (lines.cash_posting_line (abstract_cash_row row.now) balance)) }
 {
     let mut line = Vec::new(alloc);
     put_posting(alloc, &mut line, row, balance)?;
@@ -83,9 +81,8 @@ pub fn posting_text(alloc: Global, row: &CashRow, balance: Wide) -> Result<Vec<u
 }
 
 #[tactic(auto, unfolding(brk_model_explain::specs::AccountLines::balance_and_lot_header_lines))]
-fn put_lots_head(alloc: Global, out: &mut Vec<u8>, row: &AccountRow) -> Result<(), Fault>
-    ensures ok { OnOk result (out.new.items ≡ out.old.items ++ text_of_lines (lines.balance_and_lot_header_lines (abstract_account_row row.now))) }
-    ensures fault { OnErr result (result ≡ Err Memory) }
+fn put_lots_head(alloc: Global, out: &mut Vec<u8>, row: &AccountRow) -> Result<(), AllocError>
+    ensures { OnOk result (out.new.items ≡ out.old.items ++ text_of_lines (lines.balance_and_lot_header_lines (abstract_account_row row.now))) }
 {
     put_amount_fact(alloc, out, "Balance", Wide::from(row.balance))?;
     put_text_line(
@@ -95,18 +92,16 @@ fn put_lots_head(alloc: Global, out: &mut Vec<u8>, row: &AccountRow) -> Result<(
 }
 
 /// Returns the line of the balance, and the column headings of the lots and holdings.
-pub fn lots_head_text(alloc: Global, row: &AccountRow) -> Result<Vec<u8>, Fault>
-    ensures text { IfOk result (λ text. text.items ≡ text_of_lines (lines.balance_and_lot_header_lines (abstract_account_row row.now))) }
-    ensures fault { OnErr result (result ≡ Err Memory) }
+pub fn lots_head_text(alloc: Global, row: &AccountRow) -> Result<Vec<u8>, AllocError>
+    ensures { IfOk result (λ text. text.items ≡ text_of_lines (lines.balance_and_lot_header_lines (abstract_account_row row.now))) }
 {
     let mut text = Vec::new(alloc);
     put_lots_head(alloc, &mut text, row)?;
     Ok(text)
 }
 
-fn put_lot_columns(out: &mut Vec<u8>, lot: &[u8]) -> Result<(), Fault>
-    ensures ok { OnOk result (out.new.items ≡ out.old.items ++ left_aligned_text 6 (codes "Lot") ++ 32 ∷ lot.now) }
-    ensures fault { OnErr result (result ≡ Err Memory) }
+fn put_lot_columns(out: &mut Vec<u8>, lot: &[u8]) -> Result<(), AllocError>
+    ensures { OnOk result (out.new.items ≡ out.old.items ++ left_aligned_text 6 (codes "Lot") ++ 32 ∷ lot.now) }
 {
     append_left(out, 6, b"Lot")?;
     put_spaced_text(out, lot)
@@ -114,9 +109,8 @@ fn put_lot_columns(out: &mut Vec<u8>, lot: &[u8]) -> Result<(), Fault>
 
 /// Returns the line of a lot, with its quantity below 0 if it was sold short.
 #[tactic(auto, unfolding(brk_model_explain::specs::AccountLines::open_lot_line))]
-pub fn open_lot_text(alloc: Global, row: &HoldingRow) -> Result<Vec<u8>, Fault>
-    ensures line { IfOk result (λ line. line.items ≡ line_with_line_feed (lines.open_lot_line (abstract_holding_row row.now))) }
-    ensures fault { OnErr result (result ≡ Err Memory) }
+pub fn open_lot_text(alloc: Global, row: &HoldingRow) -> Result<Vec<u8>, AllocError>
+    ensures { IfOk result (λ line. line.items ≡ line_with_line_feed (lines.open_lot_line (abstract_holding_row row.now))) }
 {
     let lot = lot_line(alloc, row)?;
     let mut line = Vec::new(alloc);
@@ -125,16 +119,14 @@ pub fn open_lot_text(alloc: Global, row: &HoldingRow) -> Result<Vec<u8>, Fault>
 }
 
 // Returns cents, below 0 for shares that were sold short.
-fn market_value_of_holding(held: &PricedHolding) -> Result<Wide, Fault>
-    ensures worth { IfOk result (λ worth. worth ≡ lines.market_value_of_holding (abstract_priced_holding held.now)) }
-    ensures fault { IfErr result IsCallFault }
+fn market_value_of_holding(held: &PricedHolding) -> Result<Wide, StoreFailed>
+    ensures { IfOk result (λ worth. worth ≡ lines.market_value_of_holding (abstract_priced_holding held.now)) }
 {
     shares_value(held.summary.qty, held.price)
 }
 
-fn market_value_of_holdings(all: &[PricedHolding]) -> Result<Wide, Fault>
-    ensures total { IfOk result (λ total. total ≡ lines.market_value_of_holdings (map abstract_priced_holding all.now)) }
-    ensures fault { IfErr result IsCallFault }
+fn market_value_of_holdings(all: &[PricedHolding]) -> Result<Wide, StoreFailed>
+    ensures { IfOk result (λ total. total ≡ lines.market_value_of_holdings (map abstract_priced_holding all.now)) }
 {
     let mut total = Wide::new(0);
     for held in all {
@@ -146,9 +138,8 @@ fn market_value_of_holdings(all: &[PricedHolding]) -> Result<Wide, Fault>
 
 // The column of the lot ids is empty in the line of a holding.
 #[tactic(auto, unfolding(brk_model_explain::specs::AccountLines::holding_line_start))]
-fn put_line_start(out: &mut Vec<u8>, symbol: &[u8]) -> Result<(), Fault>
-    ensures ok { OnOk result (out.new.items ≡ out.old.items ++ lines.holding_line_start symbol.now) }
-    ensures fault { OnErr result (result ≡ Err Memory) }
+fn put_line_start(out: &mut Vec<u8>, symbol: &[u8]) -> Result<(), AllocError>
+    ensures { OnOk result (out.new.items ≡ out.old.items ++ lines.holding_line_start symbol.now) }
 {
     put_text(out, b"Held   ")?;
     append_left(out, 15, symbol)?;
@@ -156,29 +147,31 @@ fn put_line_start(out: &mut Vec<u8>, symbol: &[u8]) -> Result<(), Fault>
 }
 
 #[tactic(auto, unfolding(brk_model_explain::specs::AccountLines::quantity_and_price_columns))]
-fn align_position(alloc: Global, out: &mut Vec<u8>, qty: i64, price: Price) -> Result<(), Fault>
-    ensures ok { OnOk result (out.new.items ≡ out.old.items ++ lines.quantity_and_price_columns qty price) }
-    ensures fault { OnErr result (result ≡ Err Memory) }
+fn align_position(
+    alloc: Global,
+    out: &mut Vec<u8>,
+    qty: i64,
+    price: Price,
+) -> Result<(), AllocError>
+    ensures { OnOk result (out.new.items ≡ out.old.items ++ lines.quantity_and_price_columns qty price) }
 {
     align_integer(out, 11, i128::from(qty))?;
     align_cents(alloc, out, 10, Wide::from(price))
 }
 
 #[tactic(auto, unfolding(brk_model_explain::specs::AccountLines::holding_line))]
-fn put_holding(alloc: Global, out: &mut Vec<u8>, held: &PricedHolding) -> Result<(), Fault>
-    ensures ok { OnOk result (out.new.items ≡ out.old.items ++ line_with_line_feed (lines.holding_line (abstract_priced_holding held.now))) }
-    ensures fault { IfErr result IsCallFault }
+fn put_holding(alloc: Global, out: &mut Vec<u8>, held: &PricedHolding) -> Result<(), CallFault>
+    ensures { OnOk result (out.new.items ≡ out.old.items ++ line_with_line_feed (lines.holding_line (abstract_priced_holding held.now))) }
 {
     let worth = market_value_of_holding(held)?;
     put_line_start(out, held.summary.symbol.as_str().as_bytes())?;
     align_position(alloc, out, held.summary.qty, held.price)?;
     align_amount(alloc, out, worth)?;
-    end_line(out)
+    Ok(end_line(out)?)
 }
 
-fn put_held_lines(alloc: Global, out: &mut Vec<u8>, all: &[PricedHolding]) -> Result<(), Fault>
-    ensures ok { OnOk result (out.new.items ≡ out.old.items ++ text_of_lines (map lines.holding_line (map abstract_priced_holding all.now))) }
-    ensures fault { IfErr result IsCallFault }
+fn put_held_lines(alloc: Global, out: &mut Vec<u8>, all: &[PricedHolding]) -> Result<(), CallFault>
+    ensures { OnOk result (out.new.items ≡ out.old.items ++ text_of_lines (map lines.holding_line (map abstract_priced_holding all.now))) }
 {
     for held in all {
         put_holding(alloc, out, held)?;
@@ -186,9 +179,8 @@ fn put_held_lines(alloc: Global, out: &mut Vec<u8>, all: &[PricedHolding]) -> Re
     Ok(())
 }
 
-fn put_counts(out: &mut Vec<u8>, cash: u64, lots: u64, symbols: usize) -> Result<(), Fault>
-    ensures ok { OnOk result (out.new.items ≡ out.old.items ++ line_with_line_feed (lines.account_counts_line cash lots symbols)) }
-    ensures fault { OnErr result (result ≡ Err Memory) }
+fn put_counts(out: &mut Vec<u8>, cash: u64, lots: u64, symbols: usize) -> Result<(), AllocError>
+    ensures { OnOk result (out.new.items ≡ out.old.items ++ line_with_line_feed (lines.account_counts_line cash lots symbols)) }
 {
     put_numbered(out, "Cash rows ", cash)?;
     put_numbered(out, ", lots ", lots)?;
@@ -206,14 +198,13 @@ fn put_totals(
     cash: u64,
     lots: u64,
     symbols: usize,
-) -> Result<(), Fault>
-    ensures ok { OnOk result (out.new.items ≡ out.old.items ++ text_of_lines (lines.account_total_lines balance holdings cash lots symbols)) }
-    ensures fault { IfErr result IsCallFault }
+) -> Result<(), CallFault>
+    ensures { OnOk result (out.new.items ≡ out.old.items ++ text_of_lines (lines.account_total_lines balance holdings cash lots symbols)) }
 {
     let assets = add_amounts(Wide::from(balance), holdings)?;
     put_amount_fact(alloc, out, "Holdings", holdings)?;
     put_amount_fact(alloc, out, "Assets", assets)?;
-    put_counts(out, cash, lots, symbols)
+    Ok(put_counts(out, cash, lots, symbols)?)
 }
 
 fn put_account_end(
@@ -223,10 +214,9 @@ fn put_account_end(
     held: &[PricedHolding],
     cash: u64,
     lots: u64,
-) -> Result<(), Fault>
-    ensures ok { OnOk result (out.new.items
+) -> Result<(), CallFault>
+    ensures { OnOk result (out.new.items
         ≡ out.old.items ++ text_of_lines (lines.holding_and_total_lines (abstract_account_row row.now) (map abstract_priced_holding held.now) cash lots)) }
-    ensures fault { IfErr result IsCallFault }
 {
     let holdings = market_value_of_holdings(held)?;
     put_held_lines(alloc, out, held)?;
@@ -242,10 +232,9 @@ pub fn end_text(
     held: &[PricedHolding],
     cash: u64,
     lots: u64,
-) -> Result<Vec<u8>, Fault>
-    ensures text { IfOk result (λ text. text.items
+) -> Result<Vec<u8>, CallFault>
+    ensures { IfOk result (λ text. text.items
         ≡ text_of_lines (lines.holding_and_total_lines (abstract_account_row row.now) (map abstract_priced_holding held.now) cash lots)) }
-    ensures fault { IfErr result IsCallFault }
 {
     let mut text = Vec::new(alloc);
     put_account_end(alloc, &mut text, row, held, cash, lots)?;

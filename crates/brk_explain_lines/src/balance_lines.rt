@@ -1,13 +1,11 @@
 //! The lines of the balance before and after a completed trade, and its last line. After an error a
 //! part of them may be appended.
 
-ghost use Rattle.std.specs.Prelude.{◌≡◌, ◌++◌, Err, IfErr, OnErr, OnOk, option_map};
+ghost use Rattle.std.specs.Prelude.{◌≡◌, ◌++◌, OnOk, option_map};
 ghost use Rattle.brk_ref.specs.Rows.{abstract_cash_row};
 ghost use Rattle.brk_model_explain.specs.TradeLines as lines;
 ghost use Rattle.brk_explain_rows.specs.Details.{abstract_order_details, abstract_result_details};
-ghost use Rattle.brk_model.specs.Run.{IsCallFault};
 ghost use Rattle.brk_model.specs.Statement.{text_of_lines};
-ghost use Rattle.brk_money.specs.declared.fault.Fault.TheVariants.{Memory};
 ghost use Rattle.brk_report_lines.specs.Written.{line_with_line_feed};
 
 use crate::sums::balance_change_of_trade;
@@ -16,14 +14,13 @@ use brk_explain_columns::{
     put_value_fact,
 };
 use brk_explain_rows::{OrderDetails, ResultDetails};
-use brk_money::{Fault, Wide};
+use brk_money::{CallFault, Wide};
 use brk_ref::CashRow;
-use std::alloc::Global;
+use std::alloc::{AllocError, Global};
 
 #[tactic(auto, unfolding(brk_model_explain::specs::TradeLines::trade_cash_row_line))]
-fn put_cash_row(out: &mut Vec<u8>, row: &Option<CashRow>) -> Result<(), Fault>
-    ensures ok { OnOk result (out.new.items ≡ out.old.items ++ line_with_line_feed (lines.trade_cash_row_line (option_map abstract_cash_row row.now))) }
-    ensures fault { OnErr result (result ≡ Err Memory) }
+fn put_cash_row(out: &mut Vec<u8>, row: &Option<CashRow>) -> Result<(), AllocError>
+    ensures { OnOk result (out.new.items ≡ out.old.items ++ line_with_line_feed (lines.trade_cash_row_line (option_map abstract_cash_row row.now))) }
 {
     let Some(row) = row else {
         return put_value_fact(out, "Cash row", b"none");
@@ -39,10 +36,9 @@ pub(crate) fn put_balance(
     out: &mut Vec<u8>,
     order: &OrderDetails,
     details: &ResultDetails,
-) -> Result<(), Fault>
-    ensures ok { OnOk result (out.new.items
+) -> Result<(), CallFault>
+    ensures { OnOk result (out.new.items
         ≡ out.old.items ++ text_of_lines (lines.trade_balance_lines (abstract_order_details order.now) (abstract_result_details details.now))) }
-    ensures fault { IfErr result IsCallFault }
 {
     let opening = Wide::from(order.account.account.opening);
     let moved = balance_change_of_trade(details);
@@ -58,9 +54,13 @@ pub(crate) fn put_balance(
 }
 
 // Counts the lots of which the trade closed shares, and the cash rows before it.
-fn put_trade_count(out: &mut Vec<u8>, statuses: usize, lots: usize, cash: u64) -> Result<(), Fault>
-    ensures ok { OnOk result (out.new.items ≡ out.old.items ++ line_with_line_feed (lines.counts_line_of_trade statuses lots cash)) }
-    ensures fault { OnErr result (result ≡ Err Memory) }
+fn put_trade_count(
+    out: &mut Vec<u8>,
+    statuses: usize,
+    lots: usize,
+    cash: u64,
+) -> Result<(), AllocError>
+    ensures { OnOk result (out.new.items ≡ out.old.items ++ line_with_line_feed (lines.counts_line_of_trade statuses lots cash)) }
 {
     put_numbered(out, "Statuses ", statuses as u64)?;
     put_numbered(out, ", lots closed ", lots as u64)?;
@@ -73,10 +73,9 @@ pub(crate) fn put_trade_end(
     out: &mut Vec<u8>,
     order: &OrderDetails,
     details: &ResultDetails,
-) -> Result<(), Fault>
-    ensures ok { OnOk result (out.new.items
+) -> Result<(), AllocError>
+    ensures { OnOk result (out.new.items
         ≡ out.old.items ++ text_of_lines (lines.counts_lines_of_trade (abstract_order_details order.now) (abstract_result_details details.now))) }
-    ensures fault { OnErr result (result ≡ Err Memory) }
 {
     put_trade_count(
         out,

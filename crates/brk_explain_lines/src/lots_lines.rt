@@ -1,14 +1,12 @@
 //! The lines of the lots that a completed trade closed and opened, and of its gain. After an error
 //! a part of them may be appended.
 
-ghost use Rattle.std.specs.Prelude.{◌≡◌, ◌++◌, Err, IfErr, OnErr, OnOk, map, nat_abs, option_map};
+ghost use Rattle.std.specs.Prelude.{◌≡◌, ◌++◌, OnOk, map, nat_abs, option_map};
 ghost use Rattle.brk_ref.specs.Rows.{abstract_lot_change_row, abstract_trade_row};
 ghost use Rattle.brk_model_explain.specs.TradeLines as lines;
 ghost use Rattle.brk_model_explain.specs.Trades as trades;
 ghost use Rattle.brk_explain_rows.specs.Details.{abstract_closing, abstract_order_details, abstract_result_details};
-ghost use Rattle.brk_model.specs.Run.{IsCallFault};
 ghost use Rattle.brk_model.specs.Statement.{text_of_lines};
-ghost use Rattle.brk_money.specs.declared.fault.Fault.TheVariants.{Memory};
 ghost use Rattle.brk_report_lines.specs.Written.{line_with_line_feed};
 
 use crate::sums::{
@@ -20,14 +18,17 @@ use brk_explain_columns::{
     put_text_line, subtract_amounts, wide_of_cents,
 };
 use brk_explain_rows::{Closing, OrderDetails, ResultDetails};
-use brk_money::{Fault, Price, Side, Wide};
+use brk_money::{CallFault, Price, Side, Wide};
 use brk_ref::{LotChange, TradeRow};
-use std::alloc::Global;
+use std::alloc::{AllocError, Global};
 
 #[tactic(auto, unfolding(brk_model_explain::specs::TradeLines::price_and_lot_header_lines))]
-fn put_close_head(alloc: Global, out: &mut Vec<u8>, details: &ResultDetails) -> Result<(), Fault>
-    ensures ok { OnOk result (out.new.items ≡ out.old.items ++ text_of_lines (lines.price_and_lot_header_lines (abstract_result_details details.now))) }
-    ensures fault { OnErr result (result ≡ Err Memory) }
+fn put_close_head(
+    alloc: Global,
+    out: &mut Vec<u8>,
+    details: &ResultDetails,
+) -> Result<(), AllocError>
+    ensures { OnOk result (out.new.items ≡ out.old.items ++ text_of_lines (lines.price_and_lot_header_lines (abstract_result_details details.now))) }
 {
     put_amount_fact(alloc, out, "Price", Wide::from(details.price))?;
     put_text_line(
@@ -44,9 +45,8 @@ fn put_closing(
     side: Side,
     price: Price,
     closing: &Closing,
-) -> Result<(), Fault>
-    ensures ok { OnOk result (out.new.items ≡ out.old.items ++ line_with_line_feed (lines.lot_closing_line side price (abstract_closing closing.now))) }
-    ensures fault { IfErr result IsCallFault }
+) -> Result<(), CallFault>
+    ensures { OnOk result (out.new.items ≡ out.old.items ++ line_with_line_feed (lines.lot_closing_line side price (abstract_closing closing.now))) }
 {
     let bought = wide_of_cents(buy_value_of_closing(side, price, closing))?;
     let sold = wide_of_cents(sell_value_of_closing(side, price, closing))?;
@@ -63,7 +63,7 @@ fn put_closing(
     align_value(alloc, out, bought)?;
     align_value(alloc, out, sold)?;
     align_shares(out, closing.after)?;
-    end_line(out)
+    Ok(end_line(out)?)
 }
 
 fn put_closings(
@@ -72,9 +72,8 @@ fn put_closings(
     side: Side,
     price: Price,
     closings: &[Closing],
-) -> Result<(), Fault>
-    ensures ok { OnOk result (out.new.items ≡ out.old.items ++ text_of_lines (map (lines.lot_closing_line side price) (map abstract_closing closings.now))) }
-    ensures fault { IfErr result IsCallFault }
+) -> Result<(), CallFault>
+    ensures { OnOk result (out.new.items ≡ out.old.items ++ text_of_lines (map (lines.lot_closing_line side price) (map abstract_closing closings.now))) }
 {
     for closing in closings {
         put_closing(alloc, out, side, price, closing)?;
@@ -89,10 +88,9 @@ fn put_opening(
     trade: &TradeRow,
     price: Price,
     lot: &LotChange,
-) -> Result<(), Fault>
-    ensures ok { OnOk result (out.new.items
+) -> Result<(), AllocError>
+    ensures { OnOk result (out.new.items
         ≡ out.old.items ++ line_with_line_feed (lines.opened_lot_line (abstract_trade_row trade.now) price (abstract_lot_change_row lot.now))) }
-    ensures fault { OnErr result (result ≡ Err Memory) }
 {
     let shares = i128::from(lot.after);
     put_row_start(alloc, out, "Opened", trade.stamp, trade.id, shares, price)?;
@@ -106,10 +104,9 @@ fn put_opened_lot(
     trade: &TradeRow,
     price: Price,
     lot: &Option<LotChange>,
-) -> Result<(), Fault>
-    ensures ok { OnOk result (out.new.items
+) -> Result<(), AllocError>
+    ensures { OnOk result (out.new.items
         ≡ out.old.items ++ text_of_lines (lines.opened_lot_lines (abstract_trade_row trade.now) price (option_map abstract_lot_change_row lot.now))) }
-    ensures fault { OnErr result (result ≡ Err Memory) }
 {
     match lot {
         Some(lot) => put_opening(alloc, out, trade, price, lot),
@@ -127,13 +124,12 @@ fn opened_count(details: &ResultDetails) -> u64
 }
 
 #[tactic(auto, unfolding(brk_model_explain::specs::TradeLines::share_count_lines))]
-fn put_share_lines(out: &mut Vec<u8>, details: &ResultDetails) -> Result<(), Fault>
-    ensures ok { OnOk result (out.new.items ≡ out.old.items ++ text_of_lines (lines.share_count_lines (abstract_result_details details.now))) }
-    ensures fault { IfErr result IsCallFault }
+fn put_share_lines(out: &mut Vec<u8>, details: &ResultDetails) -> Result<(), CallFault>
+    ensures { OnOk result (out.new.items ≡ out.old.items ++ text_of_lines (lines.share_count_lines (abstract_result_details details.now))) }
 {
     let closed = total_closed_shares(&details.closings)?;
     put_number_fact(out, "Shares closed", closed)?;
-    put_number_fact(out, "Shares opened", opened_count(details))
+    Ok(put_number_fact(out, "Shares opened", opened_count(details))?)
 }
 
 #[tactic(auto, unfolding(brk_model_explain::specs::TradeLines::realised_gain_lines))]
@@ -142,10 +138,9 @@ fn put_gain_lines(
     out: &mut Vec<u8>,
     order: &OrderDetails,
     details: &ResultDetails,
-) -> Result<(), Fault>
-    ensures ok { OnOk result (out.new.items
+) -> Result<(), CallFault>
+    ensures { OnOk result (out.new.items
         ≡ out.old.items ++ text_of_lines (lines.realised_gain_lines (abstract_order_details order.now) (abstract_result_details details.now))) }
-    ensures fault { IfErr result IsCallFault }
 {
     let side = order.trade.kind.side();
     let bought = buy_value_of_closings(side, details.price, &details.closings)?;
@@ -153,7 +148,7 @@ fn put_gain_lines(
     let gain = subtract_amounts(sold, bought)?;
     put_amount_fact(alloc, out, "BUY", bought)?;
     put_amount_fact(alloc, out, "SELL", sold)?;
-    put_amount_fact(alloc, out, "Realised gain", gain)
+    Ok(put_amount_fact(alloc, out, "Realised gain", gain)?)
 }
 
 #[tactic(auto, unfolding(brk_model_explain::specs::TradeLines::lot_and_gain_lines, brk_model_explain::specs::TradeLines::lot_closing_lines))]
@@ -162,10 +157,9 @@ pub(crate) fn put_booking(
     out: &mut Vec<u8>,
     order: &OrderDetails,
     details: &ResultDetails,
-) -> Result<(), Fault>
-    ensures ok { OnOk result (out.new.items
+) -> Result<(), CallFault>
+    ensures { OnOk result (out.new.items
         ≡ out.old.items ++ text_of_lines (lines.lot_and_gain_lines (abstract_order_details order.now) (abstract_result_details details.now))) }
-    ensures fault { IfErr result IsCallFault }
 {
     let side = order.trade.kind.side();
     put_close_head(alloc, out, details)?;

@@ -1,22 +1,21 @@
 //! The lines of the settlement of a completed trade. The functions fail with `Memory` only, and may
 //! then have appended a part.
 
-ghost use Rattle.std.specs.Prelude.{◌≡◌, ◌++◌, Err, OnErr, OnOk, codes};
+ghost use Rattle.std.specs.Prelude.{◌≡◌, ◌++◌, OnOk, codes};
 ghost use Rattle.std.specs.Option.{option_map_or};
 ghost use Rattle.brk_model_explain.specs.Texts.{labeled_text};
 ghost use Rattle.brk_model_explain.specs.TradeLines as lines;
 ghost use Rattle.brk_explain_rows.specs.Details.{abstract_order_details, abstract_result_details};
 ghost use Rattle.brk_model.specs.Statement.{text_of_lines};
 ghost use Rattle.brk_money.specs.Spelling.{day_text};
-ghost use Rattle.brk_money.specs.declared.fault.Fault.TheVariants.{Memory};
 ghost use Rattle.brk_report_lines.specs.Written.{line_with_line_feed};
 
 use crate::sums::{less_charge, less_commission, less_tax, signed_trade_value};
 use brk_explain_columns::{put_amount_fact, put_day_fact, put_number_fact, put_text_fact};
 use brk_explain_rows::{OrderDetails, ResultDetails};
-use brk_money::{Day, Fault, Wide, day_of};
+use brk_money::{Day, Wide, day_of};
 use brk_trade_rows::days_to_settlement;
-use std::alloc::Global;
+use std::alloc::{AllocError, Global};
 
 /// Negates the amounts that the account pays. The settlement amount is the recorded one.
 #[tactic(auto, unfolding(brk_model_explain::specs::TradeLines::trade_settlement_lines))]
@@ -25,10 +24,9 @@ pub(crate) fn put_settlement(
     out: &mut Vec<u8>,
     order: &OrderDetails,
     details: &ResultDetails,
-) -> Result<(), Fault>
-    ensures ok { OnOk result (out.new.items
+) -> Result<(), AllocError>
+    ensures { OnOk result (out.new.items
         ≡ out.old.items ++ text_of_lines (lines.trade_settlement_lines (abstract_order_details order.now) (abstract_result_details details.now))) }
-    ensures fault { OnErr result (result ≡ Err Memory) }
 {
     put_amount_fact(alloc, out, "Value", signed_trade_value(order, details))?;
     put_amount_fact(alloc, out, "Charge", less_charge(order))?;
@@ -48,9 +46,8 @@ pub(crate) fn put_settlement(
     Ok(())
 }
 
-fn put_some_day(out: &mut Vec<u8>, label: &str, day: Option<Day>) -> Result<(), Fault>
-    ensures ok { OnOk result (out.new.items ≡ out.old.items ++ line_with_line_feed (labeled_text label.now (option_map_or day_text day (codes "none")))) }
-    ensures fault { OnErr result (result ≡ Err Memory) }
+fn put_some_day(out: &mut Vec<u8>, label: &str, day: Option<Day>) -> Result<(), AllocError>
+    ensures { OnOk result (out.new.items ≡ out.old.items ++ line_with_line_feed (labeled_text label.now (option_map_or day_text day (codes "none")))) }
 {
     match day {
         Some(day) => put_day_fact(out, label, day),
@@ -65,10 +62,9 @@ pub(crate) fn put_due_days(
     out: &mut Vec<u8>,
     order: &OrderDetails,
     details: &ResultDetails,
-) -> Result<(), Fault>
-    ensures ok { OnOk result (out.new.items
+) -> Result<(), AllocError>
+    ensures { OnOk result (out.new.items
         ≡ out.old.items ++ text_of_lines (lines.due_day_lines (abstract_order_details order.now) (abstract_result_details details.now))) }
-    ensures fault { OnErr result (result ≡ Err Memory) }
 {
     let completed = day_of(order.trade.stamp);
     let days = days_to_settlement(details.rule, completed);

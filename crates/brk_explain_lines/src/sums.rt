@@ -1,16 +1,15 @@
 //! The amounts of a completed trade, in cents. A sum that overflows is the fault `Store`.
 
-ghost use Rattle.std.specs.Prelude.{◌≡◌, ◌*◌, IfErr, IfOk, map, neg_ℤ, pos, if◌then◌else◌};
+ghost use Rattle.std.specs.Prelude.{◌≡◌, ◌*◌, IfOk, map, neg_ℤ, pos, if◌then◌else◌};
 ghost use Rattle.brk_model_explain.specs.Trades as trades;
 ghost use Rattle.brk_explain_rows.specs.Details.{abstract_closing, abstract_order_details, abstract_result_details};
 ghost use Rattle.brk_model.specs.Base as base;
-ghost use Rattle.brk_model.specs.Run.{IsCallFault};
 ghost use Rattle.brk_money.specs.Amounts as amounts;
 ghost use Rattle.brk_ref.specs.Records.{abstract_tax_rate};
 
 use brk_explain_columns::{cents_of_wide, subtract_amounts, wide_of_cents};
 use brk_explain_rows::{Closing, OrderDetails, ResultDetails};
-use brk_money::{Amount, Fault, Price, Qty, Side, TaxRate, TaxStatus, Wide, commission, tax};
+use brk_money::{Amount, Price, Qty, Side, StoreFailed, TaxRate, TaxStatus, Wide, commission, tax};
 use brk_ref::{Tax, is_taxable_status, tax_sum};
 
 pub(crate) fn shares_of_closing(closing: &Closing) -> u64
@@ -39,14 +38,13 @@ pub(crate) fn sell_value_of_closing(side: Side, price: Price, closing: &Closing)
     }
 }
 
-pub(crate) fn total_closed_shares(closings: &[Closing]) -> Result<u64, Fault>
-    ensures total { IfOk result (λ total. total ≡ trades.total_closed_shares (map abstract_closing closings.now)) }
-    ensures fault { IfErr result IsCallFault }
+pub(crate) fn total_closed_shares(closings: &[Closing]) -> Result<u64, StoreFailed>
+    ensures { IfOk result (λ total. total ≡ trades.total_closed_shares (map abstract_closing closings.now)) }
 {
     let mut total: u64 = 0;
     for closing in closings {
         let Some(sum) = total.checked_add(shares_of_closing(closing)) else {
-            return Err(Fault::Store);
+            return Err(StoreFailed);
         };
         total = sum;
     }
@@ -57,14 +55,13 @@ pub(crate) fn buy_value_of_closings(
     side: Side,
     price: Price,
     closings: &[Closing],
-) -> Result<Wide, Fault>
-    ensures total { IfOk result (λ total. total ≡ pos (trades.buy_value_of_closings side price (map abstract_closing closings.now))) }
-    ensures fault { IfErr result IsCallFault }
+) -> Result<Wide, StoreFailed>
+    ensures { IfOk result (λ total. total ≡ pos (trades.buy_value_of_closings side price (map abstract_closing closings.now))) }
 {
     let mut total: u128 = 0;
     for closing in closings {
         let Some(sum) = total.checked_add(buy_value_of_closing(side, price, closing)) else {
-            return Err(Fault::Store);
+            return Err(StoreFailed);
         };
         total = sum;
     }
@@ -75,14 +72,13 @@ pub(crate) fn sell_value_of_closings(
     side: Side,
     price: Price,
     closings: &[Closing],
-) -> Result<Wide, Fault>
-    ensures total { IfOk result (λ total. total ≡ pos (trades.sell_value_of_closings side price (map abstract_closing closings.now))) }
-    ensures fault { IfErr result IsCallFault }
+) -> Result<Wide, StoreFailed>
+    ensures { IfOk result (λ total. total ≡ pos (trades.sell_value_of_closings side price (map abstract_closing closings.now))) }
 {
     let mut total: u128 = 0;
     for closing in closings {
         let Some(sum) = total.checked_add(sell_value_of_closing(side, price, closing)) else {
-            return Err(Fault::Store);
+            return Err(StoreFailed);
         };
         total = sum;
     }
@@ -94,9 +90,8 @@ pub(crate) fn gain_of_closings(
     side: Side,
     price: Price,
     closings: &[Closing],
-) -> Result<Wide, Fault>
-    ensures gain { IfOk result (λ gain. gain ≡ trades.gain_of_closings side price (map abstract_closing closings.now)) }
-    ensures fault { IfErr result IsCallFault }
+) -> Result<Wide, StoreFailed>
+    ensures { IfOk result (λ gain. gain ≡ trades.gain_of_closings side price (map abstract_closing closings.now)) }
 {
     let bought = buy_value_of_closings(side, price, closings)?;
     let sold = sell_value_of_closings(side, price, closings)?;
@@ -104,22 +99,20 @@ pub(crate) fn gain_of_closings(
 }
 
 /// Returns hundred-thousandths. Fails with `Store` above the greatest tax rate.
-pub(crate) fn sum_of_tax_rates(rates: &[Tax]) -> Result<TaxRate, Fault>
-    ensures total { IfOk result (λ total. total ≡ trades.sum_of_tax_rates (map abstract_tax_rate rates.now)) }
-    ensures fault { IfErr result IsCallFault }
+pub(crate) fn sum_of_tax_rates(rates: &[Tax]) -> Result<TaxRate, StoreFailed>
+    ensures { IfOk result (λ total. total ≡ trades.sum_of_tax_rates (map abstract_tax_rate rates.now)) }
 {
     match tax_sum(rates) {
         Some(total) => Ok(total),
-        None => Err(Fault::Store),
+        None => Err(StoreFailed),
     }
 }
 
 // Rounds half up to whole cents, and returns 0 for a loss, or if the status is not taxable. Fails
 // with `Store` if the status is taxable and the absolute value of the gain is above
 // `Cents::GREATEST`.
-fn tax_on_gain(status: TaxStatus, gain: Wide, rates: TaxRate) -> Result<Wide, Fault>
-    ensures tax { IfOk result (λ tax. tax ≡ pos (if base.is_taxable_status status then amounts.tax gain rates else 0)) }
-    ensures fault { IfErr result IsCallFault }
+fn tax_on_gain(status: TaxStatus, gain: Wide, rates: TaxRate) -> Result<Wide, StoreFailed>
+    ensures { IfOk result (λ tax. tax ≡ pos (if base.is_taxable_status status then amounts.tax gain rates else 0)) }
 {
     if !is_taxable_status(status) {
         return Ok(Wide::new(0));
@@ -132,9 +125,8 @@ fn tax_on_gain(status: TaxStatus, gain: Wide, rates: TaxRate) -> Result<Wide, Fa
 pub(crate) fn tax_at_current_rates(
     order: &OrderDetails,
     details: &ResultDetails,
-) -> Result<Wide, Fault>
-    ensures tax { IfOk result (λ tax. tax ≡ pos (trades.tax_at_current_rates (abstract_order_details order.now) (abstract_result_details details.now))) }
-    ensures fault { IfErr result IsCallFault }
+) -> Result<Wide, StoreFailed>
+    ensures { IfOk result (λ tax. tax ≡ pos (trades.tax_at_current_rates (abstract_order_details order.now) (abstract_result_details details.now))) }
 {
     let gain = gain_of_closings(order.trade.kind.side(), details.price, &details.closings)?;
     let rates = sum_of_tax_rates(&details.rates)?;

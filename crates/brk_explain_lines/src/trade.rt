@@ -1,9 +1,8 @@
 //! The text of the explanation of a trade.
 
-ghost use Rattle.std.specs.Prelude.{◌≡◌, ◌++◌, IfErr, IfOk, OnOk, option_map};
+ghost use Rattle.std.specs.Prelude.{◌≡◌, ◌++◌, IfOk, OnOk, option_map};
 ghost use Rattle.brk_model_explain.specs.TradeLines as lines;
 ghost use Rattle.brk_explain_rows.specs.Details.{abstract_order_details, abstract_result_details, abstract_trade_details};
-ghost use Rattle.brk_model.specs.Run.{IsCallFault};
 ghost use Rattle.brk_model.specs.Statement.{text_of_lines};
 
 use crate::balance_lines::{put_balance, put_trade_end};
@@ -13,7 +12,7 @@ use crate::settlement_lines::{put_due_days, put_settlement};
 use crate::tax_lines::{put_commission, put_tax_lines};
 use crate::waiting_lines::put_uncompleted;
 use brk_explain_rows::{OrderDetails, ResultDetails, TradeDetails};
-use brk_money::Fault;
+use brk_money::CallFault;
 use std::alloc::Global;
 
 #[tactic(auto, unfolding(brk_model_explain::specs::TradeLines::completed_trade_lines))]
@@ -22,10 +21,9 @@ fn put_completed(
     out: &mut Vec<u8>,
     order: &OrderDetails,
     details: &ResultDetails,
-) -> Result<(), Fault>
-    ensures ok { OnOk result (out.new.items
+) -> Result<(), CallFault>
+    ensures { OnOk result (out.new.items
         ≡ out.old.items ++ text_of_lines (lines.completed_trade_lines (abstract_order_details order.now) (abstract_result_details details.now))) }
-    ensures fault { IfErr result IsCallFault }
 {
     put_booking(alloc, out, order, details)?;
     put_tax_lines(alloc, out, order, details)?;
@@ -33,7 +31,7 @@ fn put_completed(
     put_settlement(alloc, out, order, details)?;
     put_due_days(out, order, details)?;
     put_balance(alloc, out, order, details)?;
-    put_trade_end(out, order, details)
+    Ok(put_trade_end(out, order, details)?)
 }
 
 #[tactic(auto, unfolding(brk_model_explain::specs::TradeLines::lines_after_statuses))]
@@ -42,23 +40,21 @@ fn put_rest(
     out: &mut Vec<u8>,
     order: &OrderDetails,
     details: &Option<ResultDetails>,
-) -> Result<(), Fault>
-    ensures ok { OnOk result (out.new.items
+) -> Result<(), CallFault>
+    ensures { OnOk result (out.new.items
         ≡ out.old.items ++ text_of_lines (lines.lines_after_statuses (abstract_order_details order.now) (option_map abstract_result_details details.now))) }
-    ensures fault { IfErr result IsCallFault }
 {
     match details {
         Some(details) => put_completed(alloc, out, order, details),
-        None => put_uncompleted(alloc, out, order),
+        None => Ok(put_uncompleted(alloc, out, order)?),
     }
 }
 
 /// Returns all lines of the explanation of a trade. Fails with `Store` if an amount or a number of
 /// shares exceeds its limit, or if the tax rates total more than the greatest rate.
 #[tactic(auto, unfolding(brk_model_explain::specs::TradeLines::trade_explanation_lines))]
-pub fn explained_trade(alloc: Global, details: &TradeDetails) -> Result<Vec<u8>, Fault>
-    ensures text { IfOk result (λ text. text.items ≡ text_of_lines (lines.trade_explanation_lines (abstract_trade_details details.now))) }
-    ensures fault { IfErr result IsCallFault }
+pub fn explained_trade(alloc: Global, details: &TradeDetails) -> Result<Vec<u8>, CallFault>
+    ensures { IfOk result (λ text. text.items ≡ text_of_lines (lines.trade_explanation_lines (abstract_trade_details details.now))) }
 {
     let mut text = Vec::new(alloc);
     put_order_lines(alloc, &mut text, &details.order)?;

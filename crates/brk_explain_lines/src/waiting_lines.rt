@@ -1,13 +1,12 @@
 //! The lines of a trade that is not completed. The functions fail with `Memory` only, and may then
 //! have appended a part.
 
-ghost use Rattle.std.specs.Prelude.{◌≡◌, ◌++◌, ◌∷◌, Err, OnErr, OnOk, codes, decimal};
+ghost use Rattle.std.specs.Prelude.{◌≡◌, ◌++◌, ◌∷◌, OnOk, codes, decimal};
 ghost use Rattle.brk_model_explain.specs.Texts.{labeled_amount, labeled_text};
 ghost use Rattle.brk_model_explain.specs.TradeLines as lines;
 ghost use Rattle.brk_explain_rows.specs.Details.{abstract_order_details};
 ghost use Rattle.brk_model.specs.Rows.{nonnegative_cents_text};
 ghost use Rattle.brk_model.specs.Statement.{text_of_lines};
-ghost use Rattle.brk_money.specs.declared.fault.Fault.TheVariants.{Memory};
 ghost use Rattle.brk_report_lines.specs.Written.{line_with_line_feed};
 
 use brk_explain_columns::{
@@ -15,9 +14,9 @@ use brk_explain_columns::{
     put_spaced_line, put_text,
 };
 use brk_explain_rows::OrderDetails;
-use brk_money::{Fault, Price, Status, TradeType, Wide, write_cents};
+use brk_money::{Price, Status, TradeType, Wide, append_cents};
 use brk_ref::TradeRow;
-use std::alloc::Global;
+use std::alloc::{AllocError, Global};
 
 fn charge_remark(status: Status) -> &'static str
     ensures { result.now ≡ lines.charge_remark status }
@@ -37,18 +36,16 @@ fn commission_remark(status: Status) -> &'static str
     }
 }
 
-fn put_priced_text(out: &mut Vec<u8>, words: &str, price: Price) -> Result<(), Fault>
-    ensures ok { OnOk result (out.new.items ≡ out.old.items ++ (words.now ++ nonnegative_cents_text price)) }
-    ensures fault { OnErr result (result ≡ Err Memory) }
+fn put_priced_text(out: &mut Vec<u8>, words: &str, price: Price) -> Result<(), AllocError>
+    ensures { OnOk result (out.new.items ≡ out.old.items ++ (words.now ++ nonnegative_cents_text price)) }
 {
     put_text(out, words.as_bytes())?;
-    write_cents(out, Wide::from(price))
+    append_cents(out, Wide::from(price))
 }
 
 // A market type has no trigger, so a pending trade of it waits for a cancel.
-fn put_trigger(out: &mut Vec<u8>, kind: TradeType, price: Price) -> Result<(), Fault>
-    ensures ok { OnOk result (out.new.items ≡ out.old.items ++ lines.trigger_condition_text kind price) }
-    ensures fault { OnErr result (result ≡ Err Memory) }
+fn put_trigger(out: &mut Vec<u8>, kind: TradeType, price: Price) -> Result<(), AllocError>
+    ensures { OnOk result (out.new.items ≡ out.old.items ++ lines.trigger_condition_text kind price) }
 {
     match kind {
         TradeType::StopLoss | TradeType::LimitBuy => {
@@ -64,9 +61,8 @@ fn put_awaited(
     status: Status,
     kind: TradeType,
     price: Price,
-) -> Result<(), Fault>
-    ensures ok { OnOk result (out.new.items ≡ out.old.items ++ lines.awaited_event_text status kind price) }
-    ensures fault { OnErr result (result ≡ Err Memory) }
+) -> Result<(), AllocError>
+    ensures { OnOk result (out.new.items ≡ out.old.items ++ lines.awaited_event_text status kind price) }
 {
     match status {
         Status::Pending => put_trigger(out, kind, price),
@@ -76,10 +72,9 @@ fn put_awaited(
 }
 
 #[tactic(auto, unfolding(brk_model_explain::specs::Texts::labeled_text))]
-fn put_event_line(out: &mut Vec<u8>, trade: &TradeRow) -> Result<(), Fault>
-    ensures ok { OnOk result (out.new.items
+fn put_event_line(out: &mut Vec<u8>, trade: &TradeRow) -> Result<(), AllocError>
+    ensures { OnOk result (out.new.items
         ≡ out.old.items ++ line_with_line_feed (labeled_text (codes "Waits for") (lines.awaited_event_text trade.now.status trade.now.kind trade.now.bid))) }
-    ensures fault { OnErr result (result ≡ Err Memory) }
 {
     put_label(out, "Waits for")?;
     put_awaited(out, trade.status, trade.kind, trade.bid)?;
@@ -92,17 +87,15 @@ fn put_remarked(
     label: &str,
     amount: Wide,
     words: &str,
-) -> Result<(), Fault>
-    ensures ok { OnOk result (out.new.items ≡ out.old.items ++ line_with_line_feed (labeled_amount label.now amount ++ 32 ∷ words.now)) }
-    ensures fault { OnErr result (result ≡ Err Memory) }
+) -> Result<(), AllocError>
+    ensures { OnOk result (out.new.items ≡ out.old.items ++ line_with_line_feed (labeled_amount label.now amount ++ 32 ∷ words.now)) }
 {
     label_amount(alloc, out, label, amount)?;
     put_spaced_line(out, words.as_bytes())
 }
 
-fn put_count_line(out: &mut Vec<u8>, count: usize) -> Result<(), Fault>
-    ensures ok { OnOk result (out.new.items ≡ out.old.items ++ line_with_line_feed (codes "Statuses " ++ decimal count)) }
-    ensures fault { OnErr result (result ≡ Err Memory) }
+fn put_count_line(out: &mut Vec<u8>, count: usize) -> Result<(), AllocError>
+    ensures { OnOk result (out.new.items ≡ out.old.items ++ line_with_line_feed (codes "Statuses " ++ decimal count)) }
 {
     put_numbered(out, "Statuses ", count as u64)?;
     end_line(out)
@@ -114,9 +107,8 @@ pub(crate) fn put_uncompleted(
     alloc: Global,
     out: &mut Vec<u8>,
     order: &OrderDetails,
-) -> Result<(), Fault>
-    ensures ok { OnOk result (out.new.items ≡ out.old.items ++ text_of_lines (lines.uncompleted_trade_lines (abstract_order_details order.now))) }
-    ensures fault { OnErr result (result ≡ Err Memory) }
+) -> Result<(), AllocError>
+    ensures { OnOk result (out.new.items ≡ out.old.items ++ text_of_lines (lines.uncompleted_trade_lines (abstract_order_details order.now))) }
 {
     let trade = &order.trade;
     let charge = Wide::new(i128::from(trade.charge.get()));

@@ -9,8 +9,7 @@ use Rattle.std.proofs.lemmas.List.Elements.{filter-append}
 use Rattle.sqlite_trees.specs.declared.store.Store.{Ghosts}
 use Rattle.sqlite.specs.Held.{Held, state}
 use Rattle.sqlite.specs.State.{HasCleanDisk}
-use Rattle.brk_money.specs.declared.fault.Fault.{Fault}
-use Rattle.brk_model.specs.Run.{IsCallFault}
+use Rattle.brk_money.specs.declared.fault.CallFault.{CallFault}
 use Rattle.brk_model.specs.Tables.{AccountRow, Tables, TradeRow}
 use Rattle.brk_tables_views.specs.Walk.{IsWalkError}
 use Rattle.brk_tables_views.specs.Walks.{TableWalkEndsEarly, TakesListSatisfying}
@@ -112,12 +111,12 @@ if_err_more P Q (Err e) f h = f e h
 
 -- ---- a walk that takes nothing, as a read before it failed
 
-pub walk_none : {S X M V Y E : Type 0} (g : Ghosts S) (old new : Held S) (of : X → M) (list : Tables → List M) (takes : V → X → V → Type 0) (stops : V → X → E → V → Type 0) (v : V) (fault : Fault)
-    (Q : Y → Tables → Type 0) → IsCallFault fault → ReadPost {V = Y} {E = Fault} g old new (Err fault) Q → WalkPost g old new of list takes stops v v (Err (Failed fault))
-walk_none g old new of list takes stops v fault Q may read = record {
+pub walk_none : {S X M V Y E : Type 0} (g : Ghosts S) (old new : Held S) (of : X → M) (list : Tables → List M) (takes : V → X → V → Type 0) (stops : V → X → E → V → Type 0) (v : V) (fault : CallFault)
+    (Q : Y → Tables → Type 0) → ReadPost {V = Y} {E = CallFault} g old new (Err fault) Q → WalkPost g old new of list takes stops v v (Err (Failed fault))
+walk_none g old new of list takes stops v fault Q read = record {
   all = λ clean. tt;
-  early = λ clean. (may, ([], refl, λ t holds. (list t, refl)));
-  fault = may;
+  early = λ clean. ([], refl, λ t holds. (list t, refl));
+  fault = tt;
   was_open = λ clean. tt;
   same_rows = read.same_rows;
   unchanged_if_open = read.unchanged_if_open;
@@ -177,7 +176,7 @@ module _ {S A X M V W E : Type 0} (g : Ghosts S) (old mid new : Held S) (of : X 
     breaks_on : (r : Result (Unit {0}) (WalkError E)) → HasCleanDisk (state g mid) → IfErr r (TableWalkEndsEarly (IsPrefixOfStoredList g mid all) of TakesOn StopsOn before after)
         → IfErr r (TableWalkEndsEarly (IsPrefixOfStoredList g old list) of takes stops (inner before) (inner after))
     breaks_on (Ok u) clean h = tt
-    breaks_on (Err (Failed fault)) clean h = (h.0, (filter (test (keep before)) h.1.0, (folds_on before h.1.0 after h.1.1).1, first_on clean h.1.0 h.1.2))
+    breaks_on (Err (Failed fault)) clean h = (filter (test (keep before)) h.0, (folds_on before h.0 after h.1).1, first_on clean h.0 h.2)
     breaks_on (Err (Cause e)) clean h =
         let folds = folds_on before h.0 h.2 h.3 in
         let passed : test (keep before) h.1 ≡ true = ap (λ a. test a h.1) (sym folds.0) ∙ h.4.0 in (

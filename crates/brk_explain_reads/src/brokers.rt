@@ -1,16 +1,15 @@
 //! The facts that the explanation of a broker reads, and the walk over the trades of its accounts.
 
-ghost use Rattle.std.specs.Prelude.{◌≡◌, ◌==◌, IfErr};
+ghost use Rattle.std.specs.Prelude.{◌≡◌, ◌==◌};
 ghost use Rattle.std.specs.List.{list_any};
 ghost use Rattle.brk_ref.specs.Rows.{abstract_trade_row};
 ghost use Rattle.brk_model_explain.specs.BrokerLines.{completed_trades_of_broker};
 ghost use Rattle.brk_explain_rows.specs.Details.{AreDetailsOfBroker};
-ghost use Rattle.brk_model.specs.Run.{IsCallFault};
 ghost use Rattle.brk_store_transactions.specs.Holds.{ReadPost};
 ghost use Rattle.brk_store.specs.Walked.{WalkPost};
 
 use brk_explain_rows::BrokerDetails;
-use brk_money::{Fault, Id};
+use brk_money::{CallFault, Id};
 use brk_ref::TradeRow;
 use brk_store::{Store, Visitor, WalkError};
 use sqlite::Alter;
@@ -22,9 +21,8 @@ pub fn gather_broker<S: Alter>(
     alloc: Global,
     store: &mut Store<S>,
     broker: Id,
-) -> Result<Option<BrokerDetails>, Fault>
-    ensures read { ReadPost S.Store store.old store.new result (AreDetailsOfBroker broker) }
-    ensures fault { IfErr result IsCallFault }
+) -> Result<Option<BrokerDetails>, CallFault>
+    ensures { ReadPost S.Store store.old store.new result (AreDetailsOfBroker broker) }
 {
     let Some(row) = store.broker(broker)? else {
         return Ok(None);

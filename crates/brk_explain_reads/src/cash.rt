@@ -1,12 +1,10 @@
 //! The cash rows of an account before a stamp, walked one at a time.
 
-ghost use Rattle.std.specs.Prelude.{◌≡◌, ◌+◌, ◌+ℤ◌, Err, IfErr, IfOk, OnErr};
+ghost use Rattle.std.specs.Prelude.{◌≡◌, ◌+◌, ◌+ℤ◌, IfOk};
 ghost use Rattle.brk_explain_reads.specs.Found.{IsCashSumBeforeStamp};
-ghost use Rattle.brk_model.specs.Run.{IsCallFault};
-ghost use Rattle.brk_money.specs.declared.fault.Fault.TheVariants as fault;
 ghost use Rattle.brk_store_transactions.specs.Holds.{ReadPost};
 
-use brk_money::{Cents, Fault, Id, Stamp, Wide};
+use brk_money::{CallFault, Cents, Id, Stamp, StoreFailed, Wide};
 use brk_ref::CashRow;
 use brk_store::{Store, Visitor, WalkError};
 use sqlite::Alter;
@@ -18,15 +16,14 @@ pub struct CashSum {
     pub total: Wide,
 }
 
-fn sum_with_row(sum: &CashSum, amount: Cents) -> Result<CashSum, Fault>
-    ensures sum { IfOk result (λ more. (more.rows ≡ sum.now.rows + 1) × (more.total ≡ sum.now.total +ℤ amount)) }
-    ensures fault { OnErr result (result ≡ Err fault.Store) }
+fn sum_with_row(sum: &CashSum, amount: Cents) -> Result<CashSum, StoreFailed>
+    ensures { IfOk result (λ more. (more.rows ≡ sum.now.rows + 1) × (more.total ≡ sum.now.total +ℤ amount)) }
 {
     let Some(rows) = sum.rows.checked_add(1) else {
-        return Err(Fault::Store);
+        return Err(StoreFailed);
     };
     let Some(total) = sum.total.get().checked_add(i128::from(amount.get())) else {
-        return Err(Fault::Store);
+        return Err(StoreFailed);
     };
     Ok(CashSum {
         rows,
@@ -41,10 +38,8 @@ pub struct EarlierCashSum {
     pub sum: CashSum,
 }
 
-impl Visitor<CashRow, Fault> for EarlierCashSum {
-    ghost use Rattle.std.specs.Prelude.{◌≡◌};
+impl Visitor<CashRow, StoreFailed> for EarlierCashSum {
     ghost use Rattle.brk_explain_reads.specs.Earlier.{AddsEarlierCashRow};
-    ghost use Rattle.brk_money.specs.declared.fault.Fault.TheVariants.{Store};
 
     ghost ready = { λ _. Unit {0} };
 
@@ -52,11 +47,11 @@ impl Visitor<CashRow, Fault> for EarlierCashSum {
 
     ghost takes = { AddsEarlierCashRow };
 
-    ghost stops = { λ _ _ e _. e ≡ Store };
+    ghost stops = { λ _ _ _ _. Unit {0} };
 
     /// Skips a row at or after `until`. After an error the sum is unchanged, which no clause
     /// states.
-    fn visit(&mut self, item: &CashRow) -> Result<(), Fault> {
+    fn visit(&mut self, item: &CashRow) -> Result<(), StoreFailed> {
         if item.stamp.get() < self.until.get() {
             self.sum = sum_with_row(&self.sum, item.amount)?;
         }
@@ -68,13 +63,10 @@ impl Visitor<CashRow, Fault> for EarlierCashSum {
     ghost transitive = { λ _ _ _ _ _. tt };
 }
 
-// Returns `Memory` only if the walk failed with it, otherwise `Store`; the clause says less.
-fn fault_of_walk(stop: WalkError<Fault>) -> Fault
-    ensures { IsCallFault result }
-{
+fn fault_of_walk(stop: WalkError<StoreFailed>) -> CallFault {
     match stop {
-        WalkError::Failed(Fault::Memory) => Fault::Memory,
-        _ => Fault::Store,
+        WalkError::Failed(fault) => fault,
+        WalkError::Cause(_) => CallFault::Store,
     }
 }
 
@@ -83,9 +75,8 @@ pub(crate) fn cash_sum_before<S: Alter>(
     store: &mut Store<S>,
     account: Id,
     until: Stamp,
-) -> Result<CashSum, Fault>
-    ensures read { ReadPost S.Store store.old store.new result (λ sum t. IsCashSumBeforeStamp t account until sum) }
-    ensures fault { IfErr result IsCallFault }
+) -> Result<CashSum, CallFault>
+    ensures { ReadPost S.Store store.old store.new result (λ sum t. IsCashSumBeforeStamp t account until sum) }
 {
     let mut earlier = EarlierCashSum {
         until,
@@ -94,7 +85,7 @@ pub(crate) fn cash_sum_before<S: Alter>(
             total: Wide::new(0),
         },
     };
-    match store.visit_cash_rows::<Fault, EarlierCashSum>(
+    match store.visit_cash_rows::<StoreFailed, EarlierCashSum>(
         account,
         Stamp::nearest(0),
         until,

@@ -1,20 +1,18 @@
 //! The completed trades of a holding, and the lots that they opened.
 
-ghost use Rattle.std.specs.Prelude.{◌≡◌, ◌++◌, ◌∷◌, [], Err, IfErr, OnErr, OnOk, map, option_map, option_to_list};
+ghost use Rattle.std.specs.Prelude.{◌≡◌, ◌++◌, ◌∷◌, [], OnOk, map, option_map, option_to_list};
 ghost use Rattle.brk_explain_reads.specs.HoldingParts.{AreTradesAndLotsOfHolding, IsTradeWithLot, lot_opened_by_trade};
 ghost use Rattle.brk_explain_rows.specs.Details.{abstract_lot_details};
-ghost use Rattle.brk_model.specs.Run.{IsCallFault};
-ghost use Rattle.brk_money.specs.declared.fault.Fault.TheVariants.{Memory};
 ghost use Rattle.brk_store_transactions.specs.Holds.{ReadPost};
 
 use crate::lot_changes::{OpeningAndLaterChanges, read_changes};
 use brk_explain_rows::{LotDetails, PricedLotChange};
-use brk_money::{Fault, Id};
+use brk_money::{CallFault, Id};
 use brk_ref::{LotChange, Symbol, TradeRow};
 use brk_store::Store;
 use brk_store_required::require_trade;
 use sqlite::Alter;
-use std::alloc::Global;
+use std::alloc::{AllocError, Global};
 
 /// A trade, and the lot that it opened.
 #[derive(Drop)]
@@ -47,9 +45,8 @@ fn lot_of_trade<S: Alter>(
     alloc: Global,
     store: &mut Store<S>,
     trade: Id,
-) -> Result<Option<LotDetails>, Fault>
-    ensures read { ReadPost S.Store store.old store.new result (λ lot t. option_map abstract_lot_details lot ≡ lot_opened_by_trade t trade) }
-    ensures fault { IfErr result IsCallFault }
+) -> Result<Option<LotDetails>, CallFault>
+    ensures { ReadPost S.Store store.old store.new result (λ lot t. option_map abstract_lot_details lot ≡ lot_opened_by_trade t trade) }
 {
     let all = read_changes(alloc, store, trade)?;
     let OpeningAndLaterChanges {
@@ -67,19 +64,17 @@ fn held_trade<S: Alter>(
     alloc: Global,
     store: &mut Store<S>,
     trade: Id,
-) -> Result<TradeAndLot, Fault>
-    ensures read { ReadPost S.Store store.old store.new result (λ one t. IsTradeWithLot t trade one) }
-    ensures fault { IfErr result IsCallFault }
+) -> Result<TradeAndLot, CallFault>
+    ensures { ReadPost S.Store store.old store.new result (λ one t. IsTradeWithLot t trade one) }
 {
     let row = require_trade(store, trade)?;
     let lot = lot_of_trade(alloc, store, trade)?;
     Ok(TradeAndLot { trade: row, lot })
 }
 
-fn push_opened_lot(lots: &mut Vec<LotDetails>, lot: Option<LotDetails>) -> Result<(), Fault>
-    ensures added { OnOk result (map abstract_lot_details lots.new.items
+fn push_opened_lot(lots: &mut Vec<LotDetails>, lot: Option<LotDetails>) -> Result<(), AllocError>
+    ensures { OnOk result (map abstract_lot_details lots.new.items
         ≡ map abstract_lot_details lots.old.items ++ option_to_list (option_map abstract_lot_details lot)) }
-    ensures fault { OnErr result (result ≡ Err Memory) }
 {
     if let Some(lot) = lot {
         lots.push(lot)?;
@@ -88,11 +83,10 @@ fn push_opened_lot(lots: &mut Vec<LotDetails>, lot: Option<LotDetails>) -> Resul
 }
 
 // After an error the lot may be appended without the trade.
-fn push_trade(held: &mut TradesAndLots, one: TradeAndLot) -> Result<(), Fault>
+fn push_trade(held: &mut TradesAndLots, one: TradeAndLot) -> Result<(), AllocError>
     ensures done { OnOk result (held.new.done.items ≡ held.old.done.items ++ one.trade ∷ []) }
     ensures lots { OnOk result (map abstract_lot_details held.new.lots.items
         ≡ map abstract_lot_details held.old.lots.items ++ option_to_list (option_map abstract_lot_details one.lot)) }
-    ensures fault { OnErr result (result ≡ Err Memory) }
 {
     let TradeAndLot { trade, lot } = one;
     push_opened_lot(&mut held.lots, lot)?;
@@ -105,9 +99,8 @@ pub(crate) fn held_trades<S: Alter>(
     store: &mut Store<S>,
     account: Id,
     symbol: &Symbol,
-) -> Result<TradesAndLots, Fault>
-    ensures read { ReadPost S.Store store.old store.new result (λ held t. AreTradesAndLotsOfHolding t account symbol.now held) }
-    ensures fault { IfErr result IsCallFault }
+) -> Result<TradesAndLots, CallFault>
+    ensures { ReadPost S.Store store.old store.new result (λ held t. AreTradesAndLotsOfHolding t account symbol.now held) }
 {
     let ids = store.completed_trade_ids(alloc, account, symbol)?;
     let mut held = TradesAndLots {

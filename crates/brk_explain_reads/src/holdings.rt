@@ -1,16 +1,15 @@
 //! The facts that the explanation of a holding reads.
 
-ghost use Rattle.std.specs.Prelude.{◌≡◌, IfErr, option_map, pos};
+ghost use Rattle.std.specs.Prelude.{◌≡◌, option_map, pos};
 ghost use Rattle.std.specs.Option.{option_map_or};
 ghost use Rattle.brk_ref.specs.Rows.{abstract_summary_row};
 ghost use Rattle.brk_explain_reads.specs.HoldingParts.{AreQuantityAndPrice};
 ghost use Rattle.brk_explain_rows.specs.Details.{AreDetailsOfHolding};
-ghost use Rattle.brk_model.specs.Run.{IsCallFault};
 ghost use Rattle.brk_store_transactions.specs.Holds.{ReadPost};
 
 use crate::holding_trades::{TradesAndLots, held_trades};
 use brk_explain_rows::HoldingDetails;
-use brk_money::{Fault, Id, Planned, Price, Refusal};
+use brk_money::{CallFault, Id, Planned, Price, Refusal};
 use brk_ref::{AccountRow, Security, SummaryRow, Symbol};
 use brk_store::Store;
 use brk_store_required::require_last_price;
@@ -44,11 +43,10 @@ fn quantity_now<S: Alter>(
     store: &mut Store<S>,
     account: Id,
     symbol: &Symbol,
-) -> Result<QuantityAndPrice, Fault>
-    ensures read { ReadPost S.Store store.old store.new result (λ held t. AreQuantityAndPrice t account symbol.now held) }
-    ensures fault { IfErr result IsCallFault }
+) -> Result<QuantityAndPrice, CallFault>
+    ensures { ReadPost S.Store store.old store.new result (λ held t. AreQuantityAndPrice t account symbol.now held) }
 {
-    let summary = store.summary_of(account, symbol)?;
+    let summary = store.read_summary(account, symbol)?;
     let price = require_last_price(store, symbol)?;
     Ok(priced_quantity(qty_or_zero(summary), price))
 }
@@ -80,9 +78,8 @@ pub fn gather_holding<S: Alter>(
     store: &mut Store<S>,
     account: Id,
     symbol: &Symbol,
-) -> Planned<HoldingDetails>
-    ensures read { ReadPost S.Store store.old store.new result (AreDetailsOfHolding account symbol.now) }
-    ensures fault { IfErr result IsCallFault }
+) -> Planned<HoldingDetails, CallFault>
+    ensures { ReadPost S.Store store.old store.new result (AreDetailsOfHolding account symbol.now) }
 {
     let Some(row) = store.account(account)? else {
         return Ok(Err(Refusal::NoAccount));

@@ -1,24 +1,22 @@
 //! The change with which a lot was opened, and the changes of the lot by trades other than the one
 //! that opened it.
 
-ghost use Rattle.std.specs.Prelude.{◌≡◌, ◌==◌, ◌++◌, ◌∷◌, [], Err, IfErr, IfOk, OnErr, OnOk, filter, find, map, not, option_map};
+ghost use Rattle.std.specs.Prelude.{◌≡◌, ◌==◌, ◌++◌, ◌∷◌, [], IfOk, OnOk, filter, find, map, not, option_map};
 ghost use Rattle.brk_ref.specs.Rows.{abstract_lot_change_row};
 ghost use Rattle.brk_model_explain.specs.Holdings as model;
 ghost use Rattle.brk_explain_reads.specs.HoldingParts.{AreLotChangesByCompletion, AreLotChangesByTradeId};
 ghost use Rattle.brk_explain_rows.specs.Details.{abstract_priced_lot_change};
 ghost use Rattle.brk_model.specs.Lists.{sort_by_key};
-ghost use Rattle.brk_model.specs.Run.{IsCallFault};
-ghost use Rattle.brk_money.specs.declared.fault.Fault.TheVariants.{Memory};
 ghost use Rattle.brk_store_transactions.specs.Holds.{ReadPost};
 
 use crate::ordering::sort_by_age;
 use brk_explain_rows::PricedLotChange;
-use brk_money::{Fault, Id, Price, Stamp};
+use brk_money::{CallFault, Id, Price, Stamp};
 use brk_ref::LotChange;
 use brk_store::Store;
 use brk_store_required::require_trade;
 use sqlite::Alter;
-use std::alloc::Global;
+use std::alloc::{AllocError, Global};
 
 /// The changes of a lot: its opening, and the changes by trades other than the one that opened it.
 #[derive(Drop)]
@@ -47,10 +45,9 @@ fn opening_of_lot(changes: &[LotChange], lot: Id) -> Option<LotChange>
     None
 }
 
-fn push_later(later: &mut Vec<LotChange>, change: &LotChange, lot: Id) -> Result<(), Fault>
-    ensures added { OnOk result (map abstract_lot_change_row later.new.items
+fn push_later(later: &mut Vec<LotChange>, change: &LotChange, lot: Id) -> Result<(), AllocError>
+    ensures { OnOk result (map abstract_lot_change_row later.new.items
         ≡ map abstract_lot_change_row later.old.items ++ filter (λ h. not (h.trade == lot)) (abstract_lot_change_row change.now ∷ [])) }
-    ensures fault { OnErr result (result ≡ Err Memory) }
 {
     if is_opening(change, lot) {
         return Ok(());
@@ -59,10 +56,13 @@ fn push_later(later: &mut Vec<LotChange>, change: &LotChange, lot: Id) -> Result
     Ok(())
 }
 
-fn later_changes(alloc: Global, changes: &[LotChange], lot: Id) -> Result<Vec<LotChange>, Fault>
-    ensures later { IfOk result (λ later. map abstract_lot_change_row later.items
+fn later_changes(
+    alloc: Global,
+    changes: &[LotChange],
+    lot: Id,
+) -> Result<Vec<LotChange>, AllocError>
+    ensures { IfOk result (λ later. map abstract_lot_change_row later.items
         ≡ filter (λ h. not (h.trade == lot)) (map abstract_lot_change_row changes.now)) }
-    ensures fault { OnErr result (result ≡ Err Memory) }
 {
     let mut later = Vec::new(alloc);
     for change in changes {
@@ -83,14 +83,16 @@ fn with_price(change: &LotChange, stamp: Stamp, price: Price) -> PricedLotChange
     }
 }
 
-fn read_priced<S: Alter>(store: &mut Store<S>, change: &LotChange) -> Result<PricedLotChange, Fault>
-    ensures read { ReadPost S.Store store.old store.new result (λ priced_change t. abstract_priced_lot_change priced_change
+fn read_priced<S: Alter>(
+    store: &mut Store<S>,
+    change: &LotChange,
+) -> Result<PricedLotChange, CallFault>
+    ensures { ReadPost S.Store store.old store.new result (λ priced_change t. abstract_priced_lot_change priced_change
         ≡ model.recorded_lot_change t (abstract_lot_change_row change.now)) }
-    ensures fault { IfErr result IsCallFault }
 {
     let trade = require_trade(store, change.trade)?;
     let Some(price) = trade.price else {
-        return Err(Fault::Store);
+        return Err(CallFault::Store);
     };
     Ok(with_price(change, trade.stamp, price))
 }
@@ -99,9 +101,8 @@ fn read_unsorted<S: Alter>(
     alloc: Global,
     store: &mut Store<S>,
     lot: Id,
-) -> Result<OpeningAndLaterChanges, Fault>
-    ensures read { ReadPost S.Store store.old store.new result (λ all t. AreLotChangesByTradeId t lot all) }
-    ensures fault { IfErr result IsCallFault }
+) -> Result<OpeningAndLaterChanges, CallFault>
+    ensures { ReadPost S.Store store.old store.new result (λ all t. AreLotChangesByTradeId t lot all) }
 {
     let changes = store.lot_changes_of_lot(alloc, lot)?;
     let opening = opening_of_lot(&changes, lot);
@@ -120,10 +121,9 @@ fn read_unsorted<S: Alter>(
 fn sort_changes(
     alloc: Global,
     changes_by_others: Vec<PricedLotChange>,
-) -> Result<Vec<PricedLotChange>, Fault>
-    ensures order { IfOk result (λ all. map abstract_priced_lot_change all.items
+) -> Result<Vec<PricedLotChange>, AllocError>
+    ensures { IfOk result (λ all. map abstract_priced_lot_change all.items
         ≡ sort_by_key (λ c. c.stamp) (map abstract_priced_lot_change changes_by_others.items)) }
-    ensures fault { OnErr result (result ≡ Err Memory) }
 {
     let sorted = sort_by_age(alloc, changes_by_others)?;
     Ok(sorted)
@@ -133,9 +133,8 @@ pub(crate) fn read_changes<S: Alter>(
     alloc: Global,
     store: &mut Store<S>,
     lot: Id,
-) -> Result<OpeningAndLaterChanges, Fault>
-    ensures read { ReadPost S.Store store.old store.new result (λ all t. AreLotChangesByCompletion t lot all) }
-    ensures fault { IfErr result IsCallFault }
+) -> Result<OpeningAndLaterChanges, CallFault>
+    ensures { ReadPost S.Store store.old store.new result (λ all t. AreLotChangesByCompletion t lot all) }
 {
     let all = read_unsorted(alloc, store, lot)?;
     let changes_by_others = sort_changes(alloc, all.changes_by_others)?;

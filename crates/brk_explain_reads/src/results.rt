@@ -1,8 +1,6 @@
 //! The results of a completed trade.
 
-ghost use Rattle.std.specs.Prelude.{IfErr};
 ghost use Rattle.brk_explain_reads.specs.Found.{IsResultOfOrder};
-ghost use Rattle.brk_model.specs.Run.{IsCallFault};
 ghost use Rattle.brk_store_transactions.specs.Holds.{ReadPost};
 
 use crate::cash::cash_sum_before;
@@ -10,7 +8,7 @@ use crate::settled::read_settlement;
 use crate::terms::read_terms;
 use crate::trade_lots::read_trade_lots;
 use brk_explain_rows::{OrderDetails, ResultDetails};
-use brk_money::Fault;
+use brk_money::CallFault;
 use brk_store::Store;
 use sqlite::Alter;
 use std::alloc::Global;
@@ -20,13 +18,12 @@ pub(crate) fn result_of_trade<S: Alter>(
     alloc: Global,
     store: &mut Store<S>,
     order: &OrderDetails,
-) -> Result<ResultDetails, Fault>
-    ensures read { ReadPost S.Store store.old store.new result (λ details t. IsResultOfOrder order.now details t) }
-    ensures fault { IfErr result IsCallFault }
+) -> Result<ResultDetails, CallFault>
+    ensures { ReadPost S.Store store.old store.new result (λ details t. IsResultOfOrder order.now details t) }
 {
     let lots = read_trade_lots(alloc, store, &order.trade)?;
     let Some(price) = order.trade.price else {
-        return Err(Fault::Store);
+        return Err(CallFault::Store);
     };
     let terms = read_terms(alloc, store, order)?;
     let settled = read_settlement(store, order.trade.id)?;

@@ -1,11 +1,9 @@
 //! The settlement of a trade.
 
-ghost use Rattle.std.specs.Prelude.{IfErr};
 ghost use Rattle.brk_explain_reads.specs.Found.{IsSettlementAndCashOfTrade};
-ghost use Rattle.brk_model.specs.Run.{IsCallFault};
 ghost use Rattle.brk_store_transactions.specs.Holds.{ReadPost};
 
-use brk_money::{Day, Fault, Id};
+use brk_money::{CallFault, Day, Id};
 use brk_ref::{CashRow, SettlementRow};
 use brk_store::Store;
 use brk_store_required::require_settlement;
@@ -24,9 +22,8 @@ pub struct SettlementAndCash {
 pub(crate) fn read_settlement<S: Alter>(
     store: &mut Store<S>,
     trade: Id,
-) -> Result<SettlementAndCash, Fault>
-    ensures read { ReadPost S.Store store.old store.new result (λ settled t. IsSettlementAndCashOfTrade t trade settled) }
-    ensures fault { IfErr result IsCallFault }
+) -> Result<SettlementAndCash, CallFault>
+    ensures { ReadPost S.Store store.old store.new result (λ settled t. IsSettlementAndCashOfTrade t trade settled) }
 {
     let settlement = require_settlement(store, trade)?;
     let cash = store.cash_row(trade)?;

@@ -1,15 +1,14 @@
 //! The tax rates and the commission band of a trade, as the tables have them now.
 
-ghost use Rattle.std.specs.Prelude.{◌≡◌, ◌&&◌, IfErr, Some, find, if◌then◌else◌, map, nat_le, option_map};
+ghost use Rattle.std.specs.Prelude.{◌≡◌, ◌&&◌, Some, find, if◌then◌else◌, map, nat_le, option_map};
 ghost use Rattle.brk_ref.specs.Rows.{abstract_trade_row};
 ghost use Rattle.brk_model_explain.specs.Trades.{band_for_tier_and_exchange, tax_rates_of_customer};
 ghost use Rattle.brk_explain_reads.specs.Found.{AreTaxRatesAndBand};
-ghost use Rattle.brk_model.specs.Run.{IsCallFault};
 ghost use Rattle.brk_ref.specs.Records.{abstract_band, abstract_tax_rate};
 ghost use Rattle.brk_store_transactions.specs.Holds.{ReadPost};
 
 use brk_explain_rows::OrderDetails;
-use brk_money::{Fault, Id, Qty};
+use brk_money::{CallFault, Id, Qty};
 use brk_ref::{Band, Tax, Tier, band_contains_quantity};
 use brk_store::Store;
 use brk_store_required::{require_customer, require_tax};
@@ -27,9 +26,8 @@ fn customer_rates<S: Alter>(
     alloc: Global,
     store: &mut Store<S>,
     customer: Id,
-) -> Result<Vec<Tax>, Fault>
-    ensures read { ReadPost S.Store store.old store.new result (λ rates t. map abstract_tax_rate rates.items ≡ tax_rates_of_customer t customer) }
-    ensures fault { IfErr result IsCallFault }
+) -> Result<Vec<Tax>, CallFault>
+    ensures { ReadPost S.Store store.old store.new result (λ rates t. map abstract_tax_rate rates.items ≡ tax_rates_of_customer t customer) }
 {
     let rows = store.taxes_of_customer(alloc, customer)?;
     let mut rates = Vec::new(alloc);
@@ -69,10 +67,9 @@ fn band_for_tier<S: Alter>(
     store: &mut Store<S>,
     order: &OrderDetails,
     tier: Tier,
-) -> Result<Option<Band>, Fault>
-    ensures read { ReadPost S.Store store.old store.new result (λ band t. option_map abstract_band band
+) -> Result<Option<Band>, CallFault>
+    ensures { ReadPost S.Store store.old store.new result (λ band t. option_map abstract_band band
         ≡ band_for_tier_and_exchange t (abstract_trade_row order.now.trade) tier order.now.security.exchange) }
-    ensures fault { IfErr result IsCallFault }
 {
     let bands = store.commission_bands(alloc, tier, order.trade.kind, &order.security.exchange)?;
     Ok(band_with_quantity(bands, order.trade.qty))
@@ -82,9 +79,8 @@ pub(crate) fn read_terms<S: Alter>(
     alloc: Global,
     store: &mut Store<S>,
     order: &OrderDetails,
-) -> Result<TaxRatesAndBand, Fault>
-    ensures read { ReadPost S.Store store.old store.new result (λ terms t. AreTaxRatesAndBand t order.now terms) }
-    ensures fault { IfErr result IsCallFault }
+) -> Result<TaxRatesAndBand, CallFault>
+    ensures { ReadPost S.Store store.old store.new result (λ terms t. AreTaxRatesAndBand t order.now terms) }
 {
     let id = order.account.account.customer;
     let customer = require_customer(store, id)?;

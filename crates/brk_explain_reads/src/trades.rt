@@ -1,8 +1,7 @@
 //! The facts that the explanation of a trade reads.
 
-ghost use Rattle.std.specs.Prelude.{◌≡◌, IfErr};
+ghost use Rattle.std.specs.Prelude.{◌≡◌};
 ghost use Rattle.brk_explain_rows.specs.Details.{AreDetailsOfTrade};
-ghost use Rattle.brk_model.specs.Run.{IsCallFault};
 ghost use Rattle.brk_money.specs.Kinds.{is_same_trade_status};
 ghost use Rattle.brk_money.specs.declared.status.Status.TheVariants.{Completed};
 ghost use Rattle.brk_store_transactions.specs.Holds.{ReadPost};
@@ -10,7 +9,7 @@ ghost use Rattle.brk_store_transactions.specs.Holds.{ReadPost};
 use crate::orders::order_of_trade;
 use crate::results::result_of_trade;
 use brk_explain_rows::TradeDetails;
-use brk_money::{Fault, Id, Status};
+use brk_money::{CallFault, Id, Status};
 use brk_ref::TradeRow;
 use brk_store::Store;
 use sqlite::Alter;
@@ -30,9 +29,8 @@ pub fn gather_trade<S: Alter>(
     alloc: Global,
     store: &mut Store<S>,
     trade: Id,
-) -> Result<Option<TradeDetails>, Fault>
-    ensures read { ReadPost S.Store store.old store.new result (AreDetailsOfTrade trade) }
-    ensures fault { IfErr result IsCallFault }
+) -> Result<Option<TradeDetails>, CallFault>
+    ensures { ReadPost S.Store store.old store.new result (AreDetailsOfTrade trade) }
 {
     let Some(row) = store.trade(trade)? else {
         return Ok(None);

@@ -1,11 +1,9 @@
 //! The text of the explanation of a holding. After an error a part of it may be appended.
 
-ghost use Rattle.std.specs.Prelude.{◌≡◌, ◌++◌, Err, IfErr, IfOk, OnErr, OnOk};
+ghost use Rattle.std.specs.Prelude.{◌≡◌, ◌++◌, IfOk, OnOk};
 ghost use Rattle.brk_model_explain.specs.HoldingLines as lines;
 ghost use Rattle.brk_explain_sums.specs.HoldingTexts.{lines_of_holding_details};
-ghost use Rattle.brk_model.specs.Run.{IsCallFault};
 ghost use Rattle.brk_model.specs.Statement.{text_of_lines};
-ghost use Rattle.brk_money.specs.declared.fault.Fault.TheVariants.{Memory};
 ghost use Rattle.brk_ref.specs.Records.{abstract_account_row, abstract_security_row};
 ghost use Rattle.brk_report_lines.specs.Written.{line_with_line_feed};
 
@@ -14,13 +12,12 @@ use crate::lot_lines::put_histories;
 use crate::trade_rows::put_held_trades;
 use brk_explain_columns::{put_numbered, put_text, put_text_fact, put_text_line};
 use brk_explain_rows::HoldingDetails;
-use brk_money::{Fault, Id};
+use brk_money::{CallFault, Id};
 use brk_ref::{AccountRow, Security};
-use std::alloc::Global;
+use std::alloc::{AllocError, Global};
 
-fn put_head_title(out: &mut Vec<u8>, account: Id, symbol: &[u8]) -> Result<(), Fault>
-    ensures ok { OnOk result (out.new.items ≡ out.old.items ++ line_with_line_feed (lines.holding_title account symbol.now)) }
-    ensures fault { OnErr result (result ≡ Err Memory) }
+fn put_head_title(out: &mut Vec<u8>, account: Id, symbol: &[u8]) -> Result<(), AllocError>
+    ensures { OnOk result (out.new.items ≡ out.old.items ++ line_with_line_feed (lines.holding_title account symbol.now)) }
 {
     put_numbered(out, "Holding of account ", account.get())?;
     put_text(out, b" in ")?;
@@ -29,10 +26,13 @@ fn put_head_title(out: &mut Vec<u8>, account: Id, symbol: &[u8]) -> Result<(), F
 }
 
 #[tactic(auto, unfolding(brk_model_explain::specs::HoldingLines::holding_header_lines))]
-fn put_head_lines(out: &mut Vec<u8>, row: &AccountRow, security: &Security) -> Result<(), Fault>
-    ensures ok { OnOk result (out.new.items
+fn put_head_lines(
+    out: &mut Vec<u8>,
+    row: &AccountRow,
+    security: &Security,
+) -> Result<(), AllocError>
+    ensures { OnOk result (out.new.items
         ≡ out.old.items ++ text_of_lines (lines.holding_header_lines (abstract_account_row row.now) (abstract_security_row security.now))) }
-    ensures fault { OnErr result (result ≡ Err Memory) }
 {
     let account = &row.account;
     put_head_title(out, account.id, security.symbol.as_str().as_bytes())?;
@@ -45,9 +45,8 @@ fn put_head_lines(out: &mut Vec<u8>, row: &AccountRow, security: &Security) -> R
     Ok(())
 }
 
-fn put_lot_header(out: &mut Vec<u8>) -> Result<(), Fault>
-    ensures ok { OnOk result (out.new.items ≡ out.old.items ++ line_with_line_feed lines.lot_columns_header) }
-    ensures fault { OnErr result (result ≡ Err Memory) }
+fn put_lot_header(out: &mut Vec<u8>) -> Result<(), AllocError>
+    ensures { OnOk result (out.new.items ≡ out.old.items ++ line_with_line_feed lines.lot_columns_header) }
 {
     put_text_line(
         out,
@@ -56,9 +55,12 @@ fn put_lot_header(out: &mut Vec<u8>) -> Result<(), Fault>
 }
 
 #[tactic(auto, unfolding(brk_model_explain::specs::HoldingLines::holding_lines_from_trades_and_lots))]
-fn put_held_lines(alloc: Global, out: &mut Vec<u8>, details: &HoldingDetails) -> Result<(), Fault>
-    ensures ok { OnOk result (out.new.items ≡ out.old.items ++ text_of_lines (lines_of_holding_details details.now)) }
-    ensures fault { IfErr result IsCallFault }
+fn put_held_lines(
+    alloc: Global,
+    out: &mut Vec<u8>,
+    details: &HoldingDetails,
+) -> Result<(), CallFault>
+    ensures { OnOk result (out.new.items ≡ out.old.items ++ text_of_lines (lines_of_holding_details details.now)) }
 {
     let done = details.done.as_slice();
     let lots = details.lots.as_slice();
@@ -72,9 +74,8 @@ fn put_held_lines(alloc: Global, out: &mut Vec<u8>, details: &HoldingDetails) ->
 
 /// Returns all lines of the explanation of a holding. Fails with `Store` if an amount, a quantity
 /// or a count overflows, or if a trade has no price.
-pub fn explained_holding(alloc: Global, details: &HoldingDetails) -> Result<Vec<u8>, Fault>
-    ensures text { IfOk result (λ text. text.items ≡ text_of_lines (lines_of_holding_details details.now)) }
-    ensures fault { IfErr result IsCallFault }
+pub fn explained_holding(alloc: Global, details: &HoldingDetails) -> Result<Vec<u8>, CallFault>
+    ensures { IfOk result (λ text. text.items ≡ text_of_lines (lines_of_holding_details details.now)) }
 {
     let mut text = Vec::new(alloc);
     put_held_lines(alloc, &mut text, details)?;

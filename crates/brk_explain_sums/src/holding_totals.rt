@@ -1,13 +1,11 @@
 //! The totals of a holding, and the last line of its explanation. After an error a part of the
 //! lines may be appended.
 
-ghost use Rattle.std.specs.Prelude.{◌≡◌, ◌++◌, Err, IfErr, OnErr, OnOk, map};
+ghost use Rattle.std.specs.Prelude.{◌≡◌, ◌++◌, OnOk, map};
 ghost use Rattle.brk_ref.specs.Rows.{abstract_trade_row};
 ghost use Rattle.brk_model_explain.specs.HoldingLines as lines;
 ghost use Rattle.brk_explain_rows.specs.Details.{abstract_lot_details};
-ghost use Rattle.brk_model.specs.Run.{IsCallFault};
 ghost use Rattle.brk_model.specs.Statement.{text_of_lines};
-ghost use Rattle.brk_money.specs.declared.fault.Fault.TheVariants.{Memory};
 ghost use Rattle.brk_report_lines.specs.Written.{line_with_line_feed};
 
 use crate::holding_lots::{
@@ -18,9 +16,9 @@ use brk_explain_columns::{
     end_line, put_amount_fact, put_numbered, put_signed_fact, shares_value, subtract_amounts,
 };
 use brk_explain_rows::LotDetails;
-use brk_money::{Fault, Price, Wide};
+use brk_money::{CallFault, Price, Wide};
 use brk_ref::TradeRow;
-use std::alloc::Global;
+use std::alloc::{AllocError, Global};
 
 // `sold` is the total of the sales, negated.
 #[tactic(auto, unfolding(brk_model_explain::specs::HoldingLines::purchase_sale_gain_and_cost_lines))]
@@ -31,9 +29,8 @@ fn put_trading(
     sold: Wide,
     gain: Wide,
     cost: Wide,
-) -> Result<(), Fault>
-    ensures ok { OnOk result (out.new.items ≡ out.old.items ++ text_of_lines (lines.purchase_sale_gain_and_cost_lines bought sold gain cost)) }
-    ensures fault { OnErr result (result ≡ Err Memory) }
+) -> Result<(), AllocError>
+    ensures { OnOk result (out.new.items ≡ out.old.items ++ text_of_lines (lines.purchase_sale_gain_and_cost_lines bought sold gain cost)) }
 {
     put_amount_fact(alloc, out, "Purchases", bought)?;
     put_amount_fact(alloc, out, "Sales", sold)?;
@@ -49,16 +46,15 @@ fn put_worth(
     shares: i64,
     price: Price,
     cost: Wide,
-) -> Result<(), Fault>
-    ensures ok { OnOk result (out.new.items ≡ out.old.items ++ text_of_lines (lines.holding_value_lines shares price cost)) }
-    ensures fault { IfErr result IsCallFault }
+) -> Result<(), CallFault>
+    ensures { OnOk result (out.new.items ≡ out.old.items ++ text_of_lines (lines.holding_value_lines shares price cost)) }
 {
     let worth = shares_value(shares, price)?;
     let gain = subtract_amounts(worth, cost)?;
     put_signed_fact(out, "Shares", shares)?;
     put_amount_fact(alloc, out, "Last price", Wide::from(price))?;
     put_amount_fact(alloc, out, "Worth", worth)?;
-    put_amount_fact(alloc, out, "Unrealised gain", gain)
+    Ok(put_amount_fact(alloc, out, "Unrealised gain", gain)?)
 }
 
 fn put_lot_counts(
@@ -67,9 +63,8 @@ fn put_lot_counts(
     lots: usize,
     open_lots: u64,
     changes: u64,
-) -> Result<(), Fault>
-    ensures ok { OnOk result (out.new.items ≡ out.old.items ++ line_with_line_feed (lines.holding_counts_line trades lots open_lots changes)) }
-    ensures fault { OnErr result (result ≡ Err Memory) }
+) -> Result<(), AllocError>
+    ensures { OnOk result (out.new.items ≡ out.old.items ++ line_with_line_feed (lines.holding_counts_line trades lots open_lots changes)) }
 {
     put_numbered(out, "Trades ", trades as u64)?;
     put_numbered(out, ", lots ", lots as u64)?;
@@ -86,10 +81,9 @@ pub(crate) fn put_holding_end(
     lots: &[LotDetails],
     shares: i64,
     price: Price,
-) -> Result<(), Fault>
-    ensures ok { OnOk result (out.new.items
+) -> Result<(), CallFault>
+    ensures { OnOk result (out.new.items
         ≡ out.old.items ++ text_of_lines (lines.holding_total_lines (map abstract_trade_row done.now) (map abstract_lot_details lots.now) shares price)) }
-    ensures fault { IfErr result IsCallFault }
 {
     let bought = total_purchase_value(done)?;
     let sold = negated_total_sale_value(done)?;

@@ -6,7 +6,8 @@ ghost use Rattle.brk_view_rows.specs.Queries.{abstract_query};
 ghost use Rattle.brk_view_rows.specs.ViewNames.{text_of_view_name};
 ghost use Rattle.brk_view_rows.specs.Views.{records_of_view};
 
-use brk_desk::{Answer, Command, Desk, Query, View, line_text, parse_row, view_fields};
+use brk_desk::{Answer, Command, Desk, Query, View, parse_row, view_fields};
+use brk_desk_commands::line_of_reply;
 use brk_http_engine::{Service, comma_fields};
 use brk_money::{Fault, Planned, Stamp};
 use brk_ref::Key;
@@ -57,7 +58,7 @@ impl<S: Alter> Service for DeskService<S> {
     }
 
     fn parse_query(alloc: Global, view: ViewName, arguments: &[&[u8]]) -> Planned<Query> {
-        parse_for_view(alloc, view, arguments)
+        Ok(parse_for_view(alloc, view, arguments)?)
     }
 
     fn call(
@@ -75,10 +76,8 @@ impl<S: Alter> Service for DeskService<S> {
     }
 
     fn reply_fields(alloc: Global, reply: &Reply) -> Result<Vec<String>, AllocError> {
-        match line_text(alloc, reply) {
-            Ok(line) => comma_fields(alloc, line.as_str()),
-            Err(_) => Err(AllocError),
-        }
+        let line = line_of_reply(alloc, reply)?;
+        comma_fields(alloc, line.as_str())
     }
 
     fn view_records(alloc: Global, view: &View) -> Result<Vec<Vec<String>>, AllocError> {

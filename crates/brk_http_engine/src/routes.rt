@@ -1,19 +1,17 @@
-ghost use Rattle.std.specs.Prelude.{◌≡◌, ◌∷◌, [], Bool, Err, IfOk, MatchOption, OnErr, codes, option_map};
+ghost use Rattle.std.specs.Prelude.{◌≡◌, ◌∷◌, [], Bool, IfOk, MatchOption, codes, option_map};
 ghost use Rattle.std.specs.List.{list_all};
 ghost use Rattle.matchit.specs.Params.{AllText, named, walk};
 ghost use Rattle.brk_http_engine.specs.Rows.{is_nonempty, all_router_rows};
 ghost use Rattle.brk_model_http.specs.Routes.{key_of_batch_row, route_of_segments, route_of_target};
 ghost use Rattle.brk_model.specs.Forms.{read_id};
-ghost use Rattle.brk_money.specs.declared.fault.Fault.TheVariants.{Memory};
 ghost use Rattle.brk_ref.specs.Records.{abstract_key};
 ghost use Rattle.brk_http_engine.specs.Codes.{route_in_model};
 
 use crate::router::RouteKind;
 use crate::service::Service;
-use brk_money::Fault;
 use brk_ref::{BatchName, Key, RowNumber, parse_id};
 use matchit::{Params, Router};
-use std::alloc::Global;
+use std::alloc::{AllocError, Global};
 
 /// The route of a request target. `V` is the type of the names of views.
 #[derive(Drop)]
@@ -25,9 +23,8 @@ pub enum Route<V> {
 }
 
 // A row number is 1 to 10^12, both included.
-fn key_of_batch_row(alloc: Global, batch: &[u8], n: &[u8]) -> Result<Option<Key>, Fault>
+fn key_of_batch_row(alloc: Global, batch: &[u8], n: &[u8]) -> Result<Option<Key>, AllocError>
     ensures key { IfOk result (λ key. option_map abstract_key key ≡ key_of_batch_row batch.now (read_id n.now)) }
-    ensures fault { OnErr result (result ≡ Err Memory) }
 {
     let Some(id) = parse_id(n) else {
         return Ok(None);
@@ -61,10 +58,9 @@ fn route_to_keyed_row<D: Service>(
     alloc: Global,
     batch: &str,
     n: &str,
-) -> Result<Option<Route<D::ViewName>>, Fault>
+) -> Result<Option<Route<D::ViewName>>, AllocError>
     ensures route { IfOk result (λ route. option_map (route_in_model D.view_text) route
         ≡ route_of_segments D.forms.views ([] ∷ codes "rows" ∷ batch.now ∷ n.now ∷ [])) }
-    ensures fault { OnErr result (result ≡ Err Memory) }
 {
     match key_of_batch_row(alloc, batch.as_bytes(), n.as_bytes())? {
         Some(key) => Ok(Some(Route::ToRow(Some(key)))),
@@ -78,11 +74,10 @@ pub fn route_of_target<D: Service>(
     alloc: Global,
     router: &Router<RouteKind>,
     target: &[u8],
-) -> Result<Option<Route<D::ViewName>>, Fault>
+) -> Result<Option<Route<D::ViewName>>, AllocError>
     requires routes { router.now ≡ all_router_rows }
     requires named { list_all is_nonempty D.forms.views ≡ Bool.true }
-    ensures route { IfOk result (λ route. option_map (route_in_model D.view_text) route ≡ route_of_target D.forms.views target.now) }
-    ensures fault { OnErr result (result ≡ Err Memory) }
+    ensures { IfOk result (λ route. option_map (route_in_model D.view_text) route ≡ route_of_target D.forms.views target.now) }
 {
     let Ok(text) = str::from_utf8(target) else {
         return Ok(None);

@@ -12,10 +12,22 @@ use Rattle.std.proofs.lemmas.Grind.{pow_more}
 use Rattle.httparse.proofs.ChunkLemmas.{digits_value_after_push}
 use Rattle.httparse.specs.Spans.{header_bytes}
 use Rattle.httparse.specs.declared.spans.HeaderSpan.{HeaderSpan}
-use Rattle.brk_model_http.specs.Fields.{HeadField, is_equal_ignoring_case, values_of_field, has_field_named, body_length_of_values, body_length_of_value}
-use Rattle.brk_http_reader.specs.FieldFactUpdates.{facts_with_field, facts_of_fields}
+use Rattle.brk_model_http.specs.Fields.{HeadField, is_equal_ignoring_case, values_of_field, has_connection_close, has_field_named, body_length_of_values, body_length_of_value}
+use Rattle.brk_http_reader.specs.FieldFactUpdates.{facts_with_field}
 use Rattle.brk_model_http.specs.declared.problem.RequestProblem.TheVariants.{BadRequest}
 use Rattle.brk_http_reader.specs.declared.fields.FieldFactsSoFar.{FieldFactsSoFar}
+
+-- The facts of all fields `ps` of a head: whether there is a `Transfer-Encoding` (`chunked`),
+-- whether `Connection: close` asks to close the stream (`closes`), whether there is a
+-- `Content-Length` (`any_length`), and the body length in bytes, 0 without a `Content-Length`, or
+-- the problem with it (`len`). The case of ASCII letters in names and in `close` is ignored.
+abbrev pub facts_of_fields : List HeadField → FieldFactsSoFar
+facts_of_fields ps = record {
+  chunked = has_field_named (codes "transfer-encoding") ps;
+  closes = has_connection_close ps;
+  any_length = has_field_named (codes "content-length") ps;
+  len = body_length_of_values (values_of_field (codes "content-length") ps);
+}
 
 or_last : (a b c : Bool) → a || (b || c) ≡ (a || b) || c
 or_last true b c = refl

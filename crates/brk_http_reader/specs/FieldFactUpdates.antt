@@ -1,7 +1,6 @@
 -- The facts of the fields of a head that were read so far.
-use Rattle.std.specs.Prelude.{List, codes, ◌&&◌, ◌||◌, if◌then◌else◌, Err}
-use Rattle.brk_model_http.specs.Fields.{HeadField, is_equal_ignoring_case, has_field_named, has_connection_close}
-use Rattle.brk_model_http.specs.Fields.{body_length_of_values, values_of_field, body_length_of_value}
+use Rattle.std.specs.Prelude.{codes, ◌&&◌, ◌||◌, if◌then◌else◌, Err}
+use Rattle.brk_model_http.specs.Fields.{HeadField, is_equal_ignoring_case, body_length_of_value}
 use Rattle.brk_model_http.specs.declared.problem.RequestProblem.TheVariants.{BadRequest}
 use Rattle.brk_http_reader.specs.declared.fields.FieldFactsSoFar.{FieldFactsSoFar}
 
@@ -17,16 +16,4 @@ facts_with_field s p = record {
   closes = s.closes || (is_equal_ignoring_case p.0 (codes "connection") && is_equal_ignoring_case p.1 (codes "close"));
   any_length = s.any_length || is_equal_ignoring_case p.0 (codes "content-length");
   len = if is_equal_ignoring_case p.0 (codes "content-length") then (if s.any_length then Err BadRequest else body_length_of_value p.1) else s.len;
-}
-
--- The facts of all fields `ps` of a head: whether there is a `Transfer-Encoding` (`chunked`),
--- whether `Connection: close` asks to close the stream (`closes`), whether there is a
--- `Content-Length` (`any_length`), and the body length in bytes, 0 without a `Content-Length`, or
--- the problem with it (`len`). The case of ASCII letters in names and in `close` is ignored.
-abbrev pub facts_of_fields : List HeadField → FieldFactsSoFar
-facts_of_fields ps = record {
-  chunked = has_field_named (codes "transfer-encoding") ps;
-  closes = has_connection_close ps;
-  any_length = has_field_named (codes "content-length") ps;
-  len = body_length_of_values (values_of_field (codes "content-length") ps);
 }

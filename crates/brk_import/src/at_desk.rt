@@ -10,7 +10,8 @@ ghost use Rattle.brk_import.specs.Rows.{RowCallHasOutcome};
 ghost use Rattle.sqlite.specs.Held.{state};
 ghost use Rattle.sqlite.specs.State.{HasCleanDisk};
 
-use brk_desk::{Answer, Command, Desk, line_text, parse_row};
+use brk_desk::{Answer, Command, Desk, parse_row};
+use brk_desk_commands::line_of_reply;
 use brk_import_engine::Rows;
 use brk_money::{Fault, Planned, Stamp};
 use brk_ref::Key;
@@ -66,9 +67,6 @@ impl<S: Alter> Rows for DeskRows<S> {
     }
 
     fn reply_line(alloc: Global, reply: &Reply) -> Result<String, AllocError> {
-        match line_text(alloc, reply) {
-            Ok(line) => Ok(line),
-            Err(_) => Err(AllocError),
-        }
+        line_of_reply(alloc, reply)
     }
 }

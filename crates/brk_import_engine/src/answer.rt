@@ -1,6 +1,5 @@
-ghost use Rattle.std.specs.Prelude.{◌≡◌, ◌≤◌, Err, IfErr, IfOk, OnErr};
+ghost use Rattle.std.specs.Prelude.{◌≡◌, ◌≤◌, IfErr, IfOk, OnErr};
 ghost use Rattle.csv.specs.Records.{fields_of};
-ghost use Rattle.brk_money.specs.declared.fault.Fault.TheVariants.{Memory};
 ghost use Rattle.brk_model.specs.Input.{most_input_bytes};
 ghost use Rattle.brk_model.specs.Run.{IsCallFault};
 ghost use Rattle.brk_ref.specs.Answers.{abstract_answer};
@@ -13,13 +12,12 @@ use brk_io::Clock;
 use brk_money::Fault;
 use brk_ref::{Answer, BatchName, Key, RowNumber};
 use csv::ByteRecord;
-use std::alloc::Global;
+use std::alloc::{AllocError, Global};
 
-fn row_key(batch: &BatchName, n: u64) -> Result<Key, Fault>
+fn row_key(batch: &BatchName, n: u64) -> Result<Key, AllocError>
     requires first { 1 ≤ n }
     requires last { n ≤ most_input_bytes }
     ensures key { IfOk result (λ key. abstract_key key ≡ record { batch = batch.now; n = n }) }
-    ensures fault { OnErr result (result ≡ Err Memory) }
 {
     let batch = batch.clone()?;
     let row = RowNumber::new(n).unwrap();

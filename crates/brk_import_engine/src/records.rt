@@ -1,5 +1,5 @@
 ghost use Rattle.std.specs.Prelude.{◌≡◌, ◌⊎◌, ◌↔◌, ◌∷◌, ◌++◌, [], ℕ, List, Option, Some, IsTrue, IfOk};
-ghost use Rattle.std.specs.Prelude.{IfErr, OnOk, MatchBool, MatchOption, option_map, OnErr, Err};
+ghost use Rattle.std.specs.Prelude.{IfErr, OnOk, MatchBool, MatchOption, option_map};
 ghost use Rattle.std.specs.Io.Take.{take_remaining};
 ghost use Rattle.csv.specs.Reading.{reader_state, source_of};
 ghost use Rattle.csv.specs.Records.{field_at, fields_of};
@@ -111,11 +111,10 @@ pub fn is_correct_end(row: &ByteRecord, n: u64) -> bool
 
 /// Returns the name of the batch if the record is exactly `batch` and a well-formed name.
 #[tactic(auto, using(crate::proofs::Reading::header_name_is))]
-pub fn batch_in_header(alloc: Global, row: &ByteRecord) -> Result<Option<BatchName>, Fault>
+pub fn batch_in_header(alloc: Global, row: &ByteRecord) -> Result<Option<BatchName>, AllocError>
     ensures header { IfOk result (λ found. MatchOption found
         ((name : List ℕ) → IsBatchName name → fields_of row.now ≡ batch_header name → ⊥)
         (λ name. IsBatchName name × (fields_of row.now ≡ batch_header name))) }
-    ensures fault { OnErr result (result ≡ Err Memory) }
 {
     let Some(name) = row.get(1) else {
         return Ok(None);

@@ -1,14 +1,14 @@
 ghost use Rattle.std.specs.Prelude.{◌≡◌};
 ghost use Rattle.brk_io.specs.Faults.{report_fault_of_lines_fault};
 
-use brk_money::{Fault, Refusal};
+use brk_money::{CallFault, Fault, Refusal};
 
 /// The cause of a failure to write lines.
 #[derive(Debug, Drop)]
 pub enum LinesFault {
     /// The desk failed, or memory ran out. Only whole lines are written, and not the last one of
     /// the whole text.
-    Desk(Fault),
+    Desk(CallFault),
     /// The writer failed, or accepted no byte.
     Write,
 }
@@ -30,7 +30,7 @@ impl From<LinesFault> for ReportFault {
 
     fn from(fault: LinesFault) -> ReportFault {
         match fault {
-            LinesFault::Desk(fault) => ReportFault::Desk(fault),
+            LinesFault::Desk(fault) => ReportFault::Desk(fault.into()),
             LinesFault::Write => ReportFault::Write,
         }
     }

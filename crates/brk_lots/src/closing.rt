@@ -1,4 +1,4 @@
-ghost use Rattle.std.specs.Prelude.{◌≡◌, ◌+◌, ◌*◌, ◌≤◌, ◌≤ℤ◌, ℕ, List, Bool, drop, length, map, IfOk, IfErr, vec_len, ◌⊎◌, replicate, pos};
+ghost use Rattle.std.specs.Prelude.{◌≡◌, ◌+◌, ◌*◌, ◌≤◌, ◌≤ℤ◌, List, Bool, length, map, IfOk, vec_len, replicate, pos};
 ghost use Rattle.std.specs.Option.{option_to_list};
 ghost use Rattle.brk_model.specs.Limits.{greatest_price};
 ghost use Rattle.brk_model.specs.Shares.{lots_of_shares, touches_of_existing_lots};
@@ -6,7 +6,7 @@ ghost use Rattle.brk_lots.specs.declared.lot.Lot.{Lot};
 ghost use Rattle.brk_lots.specs.Lots.{abstract_lot, shares_of_lots};
 ghost use Rattle.brk_lots.specs.Position.{AreOpenedByOtherTrades};
 ghost use Rattle.brk_lots.specs.Closing.{IsEffectOfDealOnLots, IsClosingOfDeal};
-ghost use Rattle.brk_lots.specs.Sources.{YieldsPosition, AreLotsOfFaithfulSource};
+ghost use Rattle.brk_lots.specs.Sources.{YieldsPosition, AreLotsOfFaithfulSource, RequestsLots};
 
 use crate::closed_values::Values;
 use crate::lot::{Lot, Touch, signed_qty};
@@ -68,7 +68,7 @@ pub fn close_lots<L: LotSource>(
     price: Price,
     stamp: Stamp,
 ) -> Result<ClosedLots, Fault>
-    ensures leads { L.leads source.old source.new }
+    ensures source { RequestsLots L.leads L.reads_faithfully L.remaining L.asked L.faulted L.fails (λ fault. fault ≡ Fault.Memory) qty source.old source.new result }
     // Over the lots of a position, from either end, none of which `trade` opened, the result is the
     // effect of the trade on the shares of that position, under the disk assumption.
     ensures closed { IfOk result (λ closed. (ls : List Lot) (lifo : Bool)
@@ -80,19 +80,12 @@ pub fn close_lots<L: LotSource>(
     ensures asked { IfOk result (λ closed. L.asked source.new ≤ L.asked source.old + vec_len closed.touched + 1) }
     // Also if it fails, it has requested at most one lot for each share of the trade and, under the
     // conditions of the effect above, at most one lot more than the trade closes or reduces.
-    ensures requests_at_most_shares { L.asked source.new ≤ L.asked source.old + qty }
     ensures requests_at_most_touched { (ls : List Lot) (lifo : Bool)
         → YieldsPosition (AreLotsOfFaithfulSource (L.reads_faithfully source.new) (L.remaining source.old)) lifo ls → AreOpenedByOtherTrades trade ls →
         L.asked source.new
         ≤ L.asked source.old
         + length (touches_of_existing_lots (record { trade = trade; side = side; qty = qty; price = price; stamp = stamp; is_lifo = lifo }) (shares_of_lots ls))
         + 1 }
-    // At `Ok` the source counted no fault. A fault is `Memory`, or one with which a call of the
-    // source failed, and which left the source as it is.
-    ensures faulted { IfOk result (λ closed. L.faulted source.new ≡ L.faulted source.old) }
-    ensures fault { IfErr result (λ fault. (fault ≡ Fault.Memory) ⊎ ((before : L) × L.fails before fault source.new)) }
-    ensures remaining { (ls : List Lot) → AreLotsOfFaithfulSource (L.reads_faithfully source.new) (L.remaining source.old) ls
-        → (n : ℕ) × L.remaining source.new (drop n ls) }
 {
     let mut touched = Vec::new(alloc);
     let taken = close_lots_with_values(source, side, qty, price, &mut touched)?;
@@ -119,7 +112,7 @@ pub fn close<L: LotSource>(
     price: Price,
     stamp: Stamp,
 ) -> Result<Closing, Fault>
-    ensures leads { L.leads source.old source.new }
+    ensures source { RequestsLots L.leads L.reads_faithfully L.remaining L.asked L.faulted L.fails (λ fault. fault ≡ Fault.Memory) qty source.old source.new result }
     // Over the lots of a position, from either end, none of which `trade` opened, the result is the
     // effect of the trade on the shares of that position, under the disk assumption.
     ensures closing { IfOk result (λ closing. (ls : List Lot) (lifo : Bool)
@@ -131,19 +124,12 @@ pub fn close<L: LotSource>(
     ensures asked { IfOk result (λ closing. L.asked source.new ≤ L.asked source.old + vec_len closing.touched + 1) }
     // Also if it fails, it has requested at most one lot for each share of the trade and, under the
     // conditions of the effect above, at most one lot more than the trade closes or reduces.
-    ensures requests_at_most_shares { L.asked source.new ≤ L.asked source.old + qty }
     ensures requests_at_most_touched { (ls : List Lot) (lifo : Bool)
         → YieldsPosition (AreLotsOfFaithfulSource (L.reads_faithfully source.new) (L.remaining source.old)) lifo ls → AreOpenedByOtherTrades trade ls →
         L.asked source.new
         ≤ L.asked source.old
         + length (touches_of_existing_lots (record { trade = trade; side = side; qty = qty; price = price; stamp = stamp; is_lifo = lifo }) (shares_of_lots ls))
         + 1 }
-    // At `Ok` the source counted no fault. A fault is `Memory`, or one with which a call of the
-    // source failed, and which left the source as it is.
-    ensures faulted { IfOk result (λ closing. L.faulted source.new ≡ L.faulted source.old) }
-    ensures fault { IfErr result (λ fault. (fault ≡ Fault.Memory) ⊎ ((before : L) × L.fails before fault source.new)) }
-    ensures remaining { (ls : List Lot) → AreLotsOfFaithfulSource (L.reads_faithfully source.new) (L.remaining source.old) ls
-        → (n : ℕ) × L.remaining source.new (drop n ls) }
 {
     let closed = close_lots(alloc, source, side, qty, trade, price, stamp)?;
     Ok(Closing {

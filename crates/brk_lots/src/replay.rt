@@ -11,7 +11,7 @@ use crate::deal::Deal;
 use crate::lot::{Lot, Touch};
 use crate::position::Position;
 use brk_money::{Fault, Id};
-use std::alloc::Global;
+use std::alloc::{AllocError, Global};
 
 /// A change of a lot by the trade that closed, reduced or opened the lot.
 #[derive(Clone, Copy)]
@@ -20,10 +20,13 @@ pub struct DealTouch {
     pub touch: Touch,
 }
 
-fn append_closings(rows: &mut Vec<DealTouch>, trade: Id, touched: &[Touch]) -> Result<(), Fault>
+fn append_closings(
+    rows: &mut Vec<DealTouch>,
+    trade: Id,
+    touched: &[Touch],
+) -> Result<(), AllocError>
     ensures added { OnOk result (map abstract_deal_touch rows.new.items
         ≡ map abstract_deal_touch rows.old.items ++ map (holding_history_row trade) (map abstract_touch touched.now)) }
-    ensures fault { IfErr result (λ fault. fault ≡ Fault.Memory) }
 {
     for touch in touched {
         rows.push(DealTouch {
@@ -34,10 +37,13 @@ fn append_closings(rows: &mut Vec<DealTouch>, trade: Id, touched: &[Touch]) -> R
     Ok(())
 }
 
-fn append_opening(rows: &mut Vec<DealTouch>, trade: Id, opened: Option<Lot>) -> Result<(), Fault>
+fn append_opening(
+    rows: &mut Vec<DealTouch>,
+    trade: Id,
+    opened: Option<Lot>,
+) -> Result<(), AllocError>
     ensures added { OnOk result (map abstract_deal_touch rows.new.items
         ≡ map abstract_deal_touch rows.old.items ++ map (holding_history_row trade) (map opening_touch (map abstract_lot (option_to_list opened)))) }
-    ensures fault { IfErr result (λ fault. fault ≡ Fault.Memory) }
 {
     if let Some(lot) = opened {
         let touch = Touch {
@@ -50,11 +56,10 @@ fn append_opening(rows: &mut Vec<DealTouch>, trade: Id, opened: Option<Lot>) -> 
     Ok(())
 }
 
-fn append_changes(rows: &mut Vec<DealTouch>, trade: Id, closing: &Closing) -> Result<(), Fault>
+fn append_changes(rows: &mut Vec<DealTouch>, trade: Id, closing: &Closing) -> Result<(), AllocError>
     ensures added { OnOk result (map abstract_deal_touch rows.new.items ≡ map abstract_deal_touch rows.old.items
         ++ map (holding_history_row trade) (map abstract_touch closing.now.touched.items
         ++ map opening_touch (map abstract_lot (option_to_list closing.now.opened)))) }
-    ensures fault { IfErr result (λ fault. fault ≡ Fault.Memory) }
 {
     append_closings(rows, trade, &closing.touched)?;
     append_opening(rows, trade, closing.opened)
@@ -68,7 +73,7 @@ impl Position {
         ensures fault { IfErr result (λ fault. fault ≡ Fault.Memory) }
     {
         let mut rows = Vec::new(alloc);
-        Position::replay_changes(alloc, deals, &mut rows)
+        Ok(Position::replay_changes(alloc, deals, &mut rows)?)
     }
 
     /// Replays `deals` as `replay` does, and appends the changes of lots by each deal in sequence:
@@ -78,20 +83,23 @@ impl Position {
         alloc: Global,
         deals: &[Deal],
         rows: &mut Vec<DealTouch>,
-    ) -> Result<Position, Fault>
+    ) -> Result<Position, AllocError>
         requires { AreDistinctAscendingDeals (map abstract_deal deals.now) }
         ensures shares { IfOk result (λ position. shares_of_lots position ≡ replay (map abstract_deal deals.now)) }
         ensures rows { OnOk result (map abstract_deal_touch rows.new.items
             ≡ map abstract_deal_touch rows.old.items ++ lot_changes_of_deals (map abstract_deal deals.now) []) }
-        ensures fault { IfErr result (λ fault. fault ≡ Fault.Memory) }
     {
         let mut position = Position::new(alloc);
         for deal in deals {
             let mut end = position.from_end(deal.lifo);
-            let closing = close(
+            let Ok(closing) = close(
                 alloc, &mut end, deal.side, deal.qty, deal.trade, deal.price, deal.stamp,
-            )?;
-            position.apply(&closing)?;
+            ) else {
+                return Err(AllocError);
+            };
+            let Ok(()) = position.apply(&closing) else {
+                return Err(AllocError);
+            };
             append_changes(rows, deal.trade, &closing)?;
         }
         Ok(position)

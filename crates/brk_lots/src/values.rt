@@ -1,9 +1,9 @@
-ghost use Rattle.std.specs.Prelude.{◌≡◌, ◌+◌, ◌≤◌, ℕ, List, Bool, drop, length, IfOk, IfErr};
+ghost use Rattle.std.specs.Prelude.{◌≡◌, ◌+◌, ◌≤◌, ℕ, List, Bool, length, IfOk};
 ghost use Rattle.brk_model.specs.Shares.{touches_of_existing_lots};
 ghost use Rattle.brk_lots.specs.declared.lot.Lot.{Lot};
 ghost use Rattle.brk_lots.specs.Lots.{shares_of_lots};
 ghost use Rattle.brk_lots.specs.Position.{AreOpenedByOtherTrades};
-ghost use Rattle.brk_lots.specs.Sources.{YieldsPosition, AreLotsOfFaithfulSource};
+ghost use Rattle.brk_lots.specs.Sources.{YieldsPosition, AreLotsOfFaithfulSource, RequestsLots};
 ghost use Rattle.brk_lots.specs.Values.{closing_values_of_deal};
 
 use crate::closed_values::Values;
@@ -22,7 +22,7 @@ pub fn estimate_values<L: LotSource>(
     qty: Qty,
     price: Price,
 ) -> Result<Values, Fault>
-    ensures leads { L.leads source.old source.new }
+    ensures source { RequestsLots L.leads L.reads_faithfully L.remaining L.asked L.faulted L.fails (λ _. ⊥) qty source.old source.new result }
     // Over the lots of a position, from either end, the result is the values of exactly the shares
     // that a trade at `price` would close, under the disk assumption.
     ensures values { IfOk result (λ values. (ls : List Lot) (trade stamp : ℕ) (lifo : Bool) →
@@ -31,19 +31,12 @@ pub fn estimate_values<L: LotSource>(
     // Also if it fails, it has requested at most one lot for each share of the order and, over the
     // lots of a position under the disk assumption, at most one lot more than a trade that opened
     // none of them would close or reduce.
-    ensures requests_at_most_shares { L.asked source.new ≤ L.asked source.old + qty }
     ensures requests_at_most_touched { (ls : List Lot) (trade stamp : ℕ) (lifo : Bool) →
         YieldsPosition (AreLotsOfFaithfulSource (L.reads_faithfully source.new) (L.remaining source.old)) lifo ls → AreOpenedByOtherTrades trade ls →
         L.asked source.new
         ≤ L.asked source.old
         + length (touches_of_existing_lots (record { trade = trade; side = side; qty = qty; price = price; stamp = stamp; is_lifo = lifo }) (shares_of_lots ls))
         + 1 }
-    // At `Ok` the source counted no fault. A fault is one with which a call of the source failed,
-    // and which left the source as it is.
-    ensures faulted { IfOk result (λ values. L.faulted source.new ≡ L.faulted source.old) }
-    ensures fault { IfErr result (λ fault. (before : L) × L.fails before fault source.new) }
-    ensures remaining { (ls : List Lot) → AreLotsOfFaithfulSource (L.reads_faithfully source.new) (L.remaining source.old) ls
-        → (n : ℕ) × L.remaining source.new (drop n ls) }
 {
     let taken = close_lots_with_values(source, side, qty, price, &mut TouchDiscarder)?;
     Ok(taken.values)

@@ -1,9 +1,9 @@
-ghost use Rattle.std.specs.Prelude.{◌≡◌, ◌+◌, ◌*◌, ◌≤◌, ℕ, List, [], drop, length, IfOk, IfErr, OnOk, ◌⊎◌};
+ghost use Rattle.std.specs.Prelude.{◌+◌, ◌*◌, ◌≤◌, List, [], length, IfOk};
 ghost use Rattle.brk_model.specs.Limits.{greatest_price};
 ghost use Rattle.brk_lots.specs.declared.lot.Lot.{Lot};
 ghost use Rattle.brk_lots.specs.declared.lot.Touch.{Touch};
 ghost use Rattle.brk_lots.specs.Position.{IsPositionInAnyOrder};
-ghost use Rattle.brk_lots.specs.Sources.{AreLotsOfFaithfulSource};
+ghost use Rattle.brk_lots.specs.Sources.{AreLotsOfFaithfulSource, RequestsLots};
 ghost use Rattle.brk_lots.specs.Values.{IsResultOfTradeAgainstLots};
 ghost use Rattle.brk_lots.specs.Walks.{IsResultOfClosingLots, closed_share_count, touches_of_first_shares};
 
@@ -38,7 +38,7 @@ fn close_lots_with_cost<L: LotSource, R: TouchReceiver>(
     rows: &mut R,
 ) -> Result<CloseCost, Fault>
     requires { R.holds rows.old [] }
-    ensures leads { L.leads source.old source.new }
+    ensures source { RequestsLots L.leads L.reads_faithfully L.remaining L.asked L.faulted L.fails R.fails qty source.old source.new result }
     // It requests at most one lot more than it adds changes to `rows`. Over the lots of a position
     // under the disk assumption, it adds the changes of the lots that the trade closes or reduces.
     ensures taken { IfOk result (λ walked. (touched : List Touch) × R.holds rows.new touched × (L.asked source.new ≤ L.asked source.old + length touched + 1)
@@ -48,13 +48,8 @@ fn close_lots_with_cost<L: LotSource, R: TouchReceiver>(
     ensures limit { IfOk result (λ walked. walked.cost ≤ qty * greatest_price) }
     // Also if it fails, it has requested at most one lot for each share and, over the lots of a
     // position under the disk assumption, at most one lot more than the trade closes or reduces.
-    ensures requests_at_most_shares { L.asked source.new ≤ L.asked source.old + qty }
     ensures requests_at_most_touched { (ls : List Lot) → AreLotsOfFaithfulSource (L.reads_faithfully source.new) (L.remaining source.old) ls
         → IsPositionInAnyOrder ls → L.asked source.new ≤ L.asked source.old + length (touches_of_first_shares (closed_share_count side qty ls) ls) + 1 }
-    ensures faulted { OnOk result (L.faulted source.new ≡ L.faulted source.old) }
-    ensures fault { IfErr result (λ fault. R.fails fault ⊎ ((before : L) × L.fails before fault source.new)) }
-    ensures remaining { (ls : List Lot) → AreLotsOfFaithfulSource (L.reads_faithfully source.new) (L.remaining source.old) ls
-        → (n : ℕ) × L.remaining source.new (drop n ls) }
 {
     let mut left = qty.get();
     let mut cost: u64 = 0;
@@ -82,7 +77,7 @@ pub(crate) fn close_lots_with_values<L: LotSource, R: TouchReceiver>(
     rows: &mut R,
 ) -> Result<CloseValues, Fault>
     requires { R.holds rows.old [] }
-    ensures leads { L.leads source.old source.new }
+    ensures source { RequestsLots L.leads L.reads_faithfully L.remaining L.asked L.faulted L.fails R.fails qty source.old source.new result }
     // It requests at most one lot more than it adds changes to `rows`. Over the lots of a position
     // under the disk assumption, it adds the changes of the lots that the trade closes or reduces.
     ensures taken { IfOk result (λ taken. (touched : List Touch) × R.holds rows.new touched × (L.asked source.new ≤ L.asked source.old + length touched + 1)
@@ -92,13 +87,8 @@ pub(crate) fn close_lots_with_values<L: LotSource, R: TouchReceiver>(
     ensures sold { IfOk result (λ taken. taken.values.sell_value ≤ qty * greatest_price) }
     // Also if it fails, it has requested at most one lot for each share and, over the lots of a
     // position under the disk assumption, at most one lot more than the trade closes or reduces.
-    ensures requests_at_most_shares { L.asked source.new ≤ L.asked source.old + qty }
     ensures requests_at_most_touched { (ls : List Lot) → AreLotsOfFaithfulSource (L.reads_faithfully source.new) (L.remaining source.old) ls
         → IsPositionInAnyOrder ls → L.asked source.new ≤ L.asked source.old + length (touches_of_first_shares (closed_share_count side qty ls) ls) + 1 }
-    ensures faulted { OnOk result (L.faulted source.new ≡ L.faulted source.old) }
-    ensures fault { IfErr result (λ fault. R.fails fault ⊎ ((before : L) × L.fails before fault source.new)) }
-    ensures remaining { (ls : List Lot) → AreLotsOfFaithfulSource (L.reads_faithfully source.new) (L.remaining source.old) ls
-        → (n : ℕ) × L.remaining source.new (drop n ls) }
 {
     let walked = close_lots_with_cost(source, side, qty, rows)?;
     let closed = qty.get() - walked.left;

@@ -10,6 +10,8 @@ use Rattle.brk_money.specs.declared.tax_status.TaxStatus.{TaxStatus}
 use Rattle.brk_money.specs.declared.tax_status.TaxStatus.TheVariants.{Untaxed, Withheld, Reported}
 use Rattle.brk_money.specs.declared.fault.Condition.{Condition}
 use Rattle.brk_money.specs.declared.fault.Condition.TheVariants as condition
+use Rattle.brk_money.specs.declared.fault.CallFault.{CallFault}
+use Rattle.brk_money.specs.declared.fault.CallFault.TheVariants as call
 use Rattle.brk_money.specs.declared.fault.Fault.{Fault}
 use Rattle.brk_money.specs.declared.fault.Fault.TheVariants.{Memory, Store, Damaged}
 use Rattle.brk_money.specs.declared.side.Side.{Side}
@@ -151,6 +153,11 @@ abbrev pub fault_number : Fault → ℕ
 fault_number Memory = 90
 fault_number Store = 91
 fault_number (Damaged condition) = 92
+
+-- The fault that a `CallFault` is.
+abbrev pub fault_of_call : CallFault → Fault
+fault_of_call call.Memory = Memory
+fault_of_call call.Store = Store
 
 -- The number of a tax status (CA_TAX_ST): 0 for `Untaxed`, 1 for `Withheld`, 2 for `Reported`.
 abbrev pub tax_status_number : TaxStatus → ℕ

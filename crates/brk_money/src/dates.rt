@@ -9,6 +9,7 @@ use crate::fault::Fault;
 use jiff::ToSpan;
 use jiff::civil::{Date, date};
 use jiff::fmt::temporal::{self, DateTimePrinter};
+use std::alloc::AllocError;
 
 fn date_of_day(day: Day) -> Date
     ensures { epoch_day result ≡ pos day }
@@ -38,16 +39,24 @@ pub fn parse_day(bytes: &[u8]) -> Option<Day>
 
 /// Appends the canonical text of a day, such as `2024-03-01`.
 #[tactic(auto, using(crate::proofs::DayTexts::text_of))]
+pub fn append_day(out: &mut Vec<u8>, day: Day) -> Result<(), AllocError>
+    ensures ok { OnOk result (out.new.items ≡ out.old.items ++ day_text day) }
+    ensures err { OnErr result (out.new.items ≡ out.old.items) }
+{
+    let text = DateTimePrinter::new().date_text(date_of_day(day).to_plain());
+    match out.extend_from_slice(text.as_str().as_bytes()) {
+        Ok(()) => Ok(()),
+        Err(_) => Err(AllocError),
+    }
+}
+
+/// `append_day` for a caller that returns a `Fault`.
 pub fn write_day(out: &mut Vec<u8>, day: Day) -> Result<(), Fault>
     ensures ok { OnOk result (out.new.items ≡ out.old.items ++ day_text day) }
     ensures err { OnErr result (out.new.items ≡ out.old.items) }
     ensures fault { OnErr result (result ≡ Err Memory) }
 {
-    let text = DateTimePrinter::new().date_text(date_of_day(day).to_plain());
-    match out.extend_from_slice(text.as_str().as_bytes()) {
-        Ok(()) => Ok(()),
-        Err(_) => Err(Fault::Memory),
-    }
+    Ok(append_day(out, day)?)
 }
 
 /// Proof-only: different days up to 9999-12-31 have different canonical texts.

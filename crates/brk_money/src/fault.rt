@@ -1,6 +1,7 @@
 ghost use Rattle.std.specs.Prelude.{◌≡◌};
-ghost use Rattle.brk_money.specs.Kinds.{condition_word, fault_number};
-ghost use Rattle.brk_money.specs.declared.fault.Fault.TheVariants.{Memory};
+ghost use Rattle.brk_money.specs.Kinds.{condition_word, fault_number, fault_of_call};
+ghost use Rattle.brk_money.specs.declared.fault.CallFault.TheVariants as call;
+ghost use Rattle.brk_money.specs.declared.fault.Fault.TheVariants.{Memory, Store};
 
 use std::alloc::{AllocError, AllocFailed};
 
@@ -86,6 +87,19 @@ impl Fault {
     }
 }
 
+/// The reason why a call failed that only an allocation or the database can fail.
+#[derive(Clone, Copy, Debug, PartialEq, Eq)]
+pub enum CallFault {
+    /// `Fault::Memory`.
+    Memory,
+    /// `Fault::Store`.
+    Store,
+}
+
+/// The error of a call that only the database can fail: `Fault::Store`.
+#[derive(Clone, Copy, Debug, PartialEq, Eq)]
+pub struct StoreFailed;
+
 impl From<AllocError> for Fault {
     ghost from_gives = { λ _ fault. fault ≡ Memory };
 
@@ -99,5 +113,48 @@ impl<T: Drop> From<AllocFailed<T>> for Fault {
 
     fn from(_error: AllocFailed<T>) -> Fault {
         Fault::Memory
+    }
+}
+
+impl From<StoreFailed> for Fault {
+    ghost from_gives = { λ _ fault. fault ≡ Store };
+
+    fn from(_error: StoreFailed) -> Fault {
+        Fault::Store
+    }
+}
+
+impl From<CallFault> for Fault {
+    ghost from_gives = { λ call fault. fault ≡ fault_of_call call };
+
+    fn from(fault: CallFault) -> Fault {
+        match fault {
+            CallFault::Memory => Fault::Memory,
+            CallFault::Store => Fault::Store,
+        }
+    }
+}
+
+impl From<AllocError> for CallFault {
+    ghost from_gives = { λ _ fault. fault ≡ call.Memory };
+
+    fn from(_error: AllocError) -> CallFault {
+        CallFault::Memory
+    }
+}
+
+impl<T: Drop> From<AllocFailed<T>> for CallFault {
+    ghost from_gives = { λ _ fault. fault ≡ call.Memory };
+
+    fn from(_error: AllocFailed<T>) -> CallFault {
+        CallFault::Memory
+    }
+}
+
+impl From<StoreFailed> for CallFault {
+    ghost from_gives = { λ _ fault. fault ≡ call.Store };
+
+    fn from(_error: StoreFailed) -> CallFault {
+        CallFault::Store
     }
 }

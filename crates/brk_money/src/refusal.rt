@@ -5,9 +5,9 @@ use crate::fault::Fault;
 use crate::status::Status;
 use std::fmt;
 
-/// The result of a call that may be refused: the value or the refusal, or a fault if the call
+/// The result of a call that may be refused: the value or the refusal, or the error `E` if the call
 /// failed.
-pub type Planned<T> = Result<Result<T, Refusal>, Fault>;
+pub type Planned<T, E = Fault> = Result<Result<T, Refusal>, E>;
 
 /// A number or a sum that would leave its range.
 #[derive(Clone, Copy, Debug, PartialEq, Eq)]

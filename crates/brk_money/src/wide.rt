@@ -6,6 +6,7 @@ use crate::cents::Cents;
 use crate::fault::Fault;
 use crate::price::Price;
 use itoa::Buffer;
+use std::alloc::AllocError;
 use std::fmt;
 use std::marker::Model;
 
@@ -87,10 +88,14 @@ impl fmt::Display for Price {
     }
 }
 
-fn append_texts(out: &mut Vec<u8>, first: &[u8], second: &[u8], third: &[u8]) -> Result<(), Fault>
+fn append_texts(
+    out: &mut Vec<u8>,
+    first: &[u8],
+    second: &[u8],
+    third: &[u8],
+) -> Result<(), AllocError>
     ensures ok { OnOk result (out.new.items ≡ out.old.items ++ (first.now ++ (second.now ++ third.now))) }
     ensures err { OnErr result (out.new.items ≡ out.old.items) }
-    ensures fault { OnErr result (result ≡ Err Memory) }
 {
     let start = out.len();
     if out.extend_from_slice(first).is_ok()
@@ -100,14 +105,13 @@ fn append_texts(out: &mut Vec<u8>, first: &[u8], second: &[u8], third: &[u8]) ->
         return Ok(());
     }
     out.truncate(start);
-    Err(Fault::Memory)
+    Err(AllocError)
 }
 
 /// Appends the canonical text of an amount, such as `-12.05`.
-pub fn write_cents(out: &mut Vec<u8>, amount: Wide) -> Result<(), Fault>
+pub fn append_cents(out: &mut Vec<u8>, amount: Wide) -> Result<(), AllocError>
     ensures ok { OnOk result (out.new.items ≡ out.old.items ++ cents_text amount) }
     ensures err { OnErr result (out.new.items ≡ out.old.items) }
-    ensures fault { OnErr result (result ≡ Err Memory) }
 {
     let cents = amount.0.unsigned_abs();
     let part = (cents % 100) as u8;
@@ -119,4 +123,13 @@ pub fn write_cents(out: &mut Vec<u8>, amount: Wide) -> Result<(), Fault>
     } else {
         append_texts(out, b"", whole, &tail)
     }
+}
+
+/// `append_cents` for a caller that returns a `Fault`.
+pub fn write_cents(out: &mut Vec<u8>, amount: Wide) -> Result<(), Fault>
+    ensures ok { OnOk result (out.new.items ≡ out.old.items ++ cents_text amount) }
+    ensures err { OnErr result (out.new.items ≡ out.old.items) }
+    ensures fault { OnErr result (result ≡ Err Memory) }
+{
+    Ok(append_cents(out, amount)?)
 }

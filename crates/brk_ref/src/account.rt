@@ -7,7 +7,7 @@ ghost use Rattle.brk_ref.specs.Fields.{ParsesAs, texts_of_fields};
 use crate::name::Name;
 use crate::numbers::{parse_balance, parse_id, parse_tax_status};
 use brk_money::{Cents, Id, Planned, Refusal, TaxStatus};
-use std::alloc::Global;
+use std::alloc::{AllocError, Global};
 
 /// An account of a customer at a broker.
 #[derive(Clone, Drop)]
@@ -36,10 +36,9 @@ fn parse_account(
     name: &[u8],
     tax_status: &[u8],
     opening: &[u8],
-) -> Planned<Account>
-    ensures read { IfOk result (λ read. ParsesAs abstract_account read (read_account (id.now ∷ customer.now ∷ broker.now ∷ name.now ∷ tax_status.now
+) -> Planned<Account, AllocError>
+    ensures { IfOk result (λ read. ParsesAs abstract_account read (read_account (id.now ∷ customer.now ∷ broker.now ∷ name.now ∷ tax_status.now
         ∷ opening.now ∷ []))) }
-    ensures fault { OnErr result (result ≡ Err Memory) }
 {
     let Some(id) = parse_id(id) else {
         return Ok(Err(Refusal::BadText));
@@ -75,9 +74,8 @@ fn parse_account_terms(
     customer: &[u8],
     broker: &[u8],
     terms: &[&[u8]],
-) -> Planned<Account>
-    ensures read { IfOk result (λ read. ParsesAs abstract_account read (read_account (id.now ∷ customer.now ∷ broker.now ∷ texts_of_fields terms.now))) }
-    ensures fault { OnErr result (result ≡ Err Memory) }
+) -> Planned<Account, AllocError>
+    ensures { IfOk result (λ read. ParsesAs abstract_account read (read_account (id.now ∷ customer.now ∷ broker.now ∷ texts_of_fields terms.now))) }
 {
     let [name, tax_status, opening] = terms else {
         return Ok(Err(Refusal::BadText));
@@ -93,5 +91,5 @@ pub fn check_account(alloc: Global, fields: &[&[u8]]) -> Planned<Account>
     let [id, customer, broker, terms @ ..] = fields else {
         return Ok(Err(Refusal::BadText));
     };
-    parse_account_terms(alloc, id, customer, broker, terms)
+    Ok(parse_account_terms(alloc, id, customer, broker, terms)?)
 }

@@ -13,7 +13,7 @@ use crate::numbers::{parse_qty, parse_rate};
 use crate::tier::Tier;
 use crate::trade_type::parse_type;
 use brk_money::{Planned, Qty, Rate, Refusal, TradeType};
-use std::alloc::Global;
+use std::alloc::{AllocError, Global};
 
 /// The commission rate, in hundredths of a percent, of a tier, a type and an exchange for
 /// quantities between two bounds, both included (a row of COMMISSION_RATE).
@@ -51,10 +51,9 @@ fn parse_band(
     low: &[u8],
     high: &[u8],
     rate: &[u8],
-) -> Planned<Band>
-    ensures read { IfOk result (λ read. ParsesAs abstract_band read (read_commission_band (tier.now ∷ kind.now ∷ exchange.now ∷ low.now ∷ high.now ∷ rate.now
+) -> Planned<Band, AllocError>
+    ensures { IfOk result (λ read. ParsesAs abstract_band read (read_commission_band (tier.now ∷ kind.now ∷ exchange.now ∷ low.now ∷ high.now ∷ rate.now
         ∷ []))) }
-    ensures fault { OnErr result (result ≡ Err Memory) }
 {
     let Some(tier) = Tier::parse(tier) else {
         return Ok(Err(Refusal::BadText));
@@ -87,9 +86,8 @@ fn parse_band_terms(
     kind: &[u8],
     exchange: &[u8],
     terms: &[&[u8]],
-) -> Planned<Band>
-    ensures read { IfOk result (λ read. ParsesAs abstract_band read (read_commission_band (tier.now ∷ kind.now ∷ exchange.now ∷ texts_of_fields terms.now))) }
-    ensures fault { OnErr result (result ≡ Err Memory) }
+) -> Planned<Band, AllocError>
+    ensures { IfOk result (λ read. ParsesAs abstract_band read (read_commission_band (tier.now ∷ kind.now ∷ exchange.now ∷ texts_of_fields terms.now))) }
 {
     let [low, high, rate] = terms else {
         return Ok(Err(Refusal::BadText));
@@ -106,7 +104,7 @@ pub fn check_band(alloc: Global, fields: &[&[u8]]) -> Planned<Band>
     let [tier, kind, exchange, terms @ ..] = fields else {
         return Ok(Err(Refusal::BadText));
     };
-    parse_band_terms(alloc, tier, kind, exchange, terms)
+    Ok(parse_band_terms(alloc, tier, kind, exchange, terms)?)
 }
 
 /// Returns true if the quantity is within the bounds of the band, both included.

@@ -9,7 +9,7 @@ use crate::numbers::parse_id;
 use crate::tax_id::TaxId;
 use crate::tier::Tier;
 use brk_money::{Id, Planned, Refusal};
-use std::alloc::Global;
+use std::alloc::{AllocError, Global};
 
 /// A customer. A tax id belongs to at most one customer.
 #[derive(Clone, Drop)]
@@ -28,10 +28,9 @@ fn parse_customer_fields(
     tax_id: &[u8],
     last_name: &[u8],
     first_name: &[u8],
-) -> Planned<Customer>
-    ensures read { IfOk result (λ read. ParsesAs abstract_customer read (read_customer (id.now ∷ tier.now ∷ tax_id.now ∷ last_name.now ∷ first_name.now
+) -> Planned<Customer, AllocError>
+    ensures { IfOk result (λ read. ParsesAs abstract_customer read (read_customer (id.now ∷ tier.now ∷ tax_id.now ∷ last_name.now ∷ first_name.now
         ∷ []))) }
-    ensures fault { OnErr result (result ≡ Err Memory) }
 {
     let Some(id) = parse_id(id) else {
         return Ok(Err(Refusal::BadText));
@@ -65,5 +64,5 @@ pub fn check_customer(alloc: Global, fields: &[&[u8]]) -> Planned<Customer>
     let [id, tier, tax_id, last_name, first_name] = fields else {
         return Ok(Err(Refusal::BadText));
     };
-    parse_customer_fields(alloc, id, tier, tax_id, last_name, first_name)
+    Ok(parse_customer_fields(alloc, id, tier, tax_id, last_name, first_name)?)
 }

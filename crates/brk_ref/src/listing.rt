@@ -10,7 +10,7 @@ use crate::numbers::parse_price;
 use crate::security::Security;
 use crate::symbol::Symbol;
 use brk_money::{Planned, Price, Refusal};
-use std::alloc::Global;
+use std::alloc::{AllocError, Global};
 
 /// A security to list, with its first price per share, in cents.
 #[derive(Drop)]
@@ -26,9 +26,8 @@ fn parse_listing(
     exchange: &[u8],
     sector: &[u8],
     price: &[u8],
-) -> Planned<Listing>
-    ensures read { IfOk result (λ read. ParsesAs abstract_listing read (read_listing (symbol.now ∷ name.now ∷ exchange.now ∷ sector.now ∷ price.now ∷ []))) }
-    ensures fault { OnErr result (result ≡ Err Memory) }
+) -> Planned<Listing, AllocError>
+    ensures { IfOk result (λ read. ParsesAs abstract_listing read (read_listing (symbol.now ∷ name.now ∷ exchange.now ∷ sector.now ∷ price.now ∷ []))) }
 {
     let Some(symbol) = Symbol::parse(alloc, symbol)? else {
         return Ok(Err(Refusal::BadText));
@@ -63,5 +62,5 @@ pub fn check_security(alloc: Global, fields: &[&[u8]]) -> Planned<Listing>
     let [symbol, name, exchange, sector, price] = fields else {
         return Ok(Err(Refusal::BadText));
     };
-    parse_listing(alloc, symbol, name, exchange, sector, price)
+    Ok(parse_listing(alloc, symbol, name, exchange, sector, price)?)
 }

@@ -9,7 +9,7 @@ use crate::name::Name;
 use crate::numbers::parse_id;
 use crate::tax_id::TaxId;
 use brk_money::{Id, Planned, Refusal};
-use std::alloc::Global;
+use std::alloc::{AllocError, Global};
 
 /// A person who, besides the account's customer, may place orders for an account (a row of
 /// ACCOUNT_PERMISSION).
@@ -29,10 +29,9 @@ fn parse_permission(
     tax_id: &[u8],
     last_name: &[u8],
     first_name: &[u8],
-) -> Planned<Permission>
-    ensures read { IfOk result (λ read. ParsesAs abstract_permission read (read_permission (account.now ∷ acl.now ∷ tax_id.now ∷ last_name.now ∷ first_name.now
+) -> Planned<Permission, AllocError>
+    ensures { IfOk result (λ read. ParsesAs abstract_permission read (read_permission (account.now ∷ acl.now ∷ tax_id.now ∷ last_name.now ∷ first_name.now
         ∷ []))) }
-    ensures fault { OnErr result (result ≡ Err Memory) }
 {
     let Some(account) = parse_id(account) else {
         return Ok(Err(Refusal::BadText));
@@ -66,5 +65,5 @@ pub fn check_permission(alloc: Global, fields: &[&[u8]]) -> Planned<Permission>
     let [account, acl, tax_id, last_name, first_name] = fields else {
         return Ok(Err(Refusal::BadText));
     };
-    parse_permission(alloc, account, acl, tax_id, last_name, first_name)
+    Ok(parse_permission(alloc, account, acl, tax_id, last_name, first_name)?)
 }

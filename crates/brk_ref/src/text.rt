@@ -1,11 +1,9 @@
-ghost use Rattle.std.specs.Prelude.{◌≡◌, ℕ, List, Bool, true, IfOk, OnErr, Err, string_bytes};
+ghost use Rattle.std.specs.Prelude.{◌≡◌, ℕ, List, Bool, true, IfOk, string_bytes};
 ghost use Rattle.std.specs.Option.{ok_or};
 ghost use Rattle.std.specs.Str.{IsUtf8};
 ghost use Rattle.brk_model.specs.Forms.{read_valid_text};
-ghost use Rattle.brk_money.specs.declared.fault.Fault.TheVariants.{Memory};
 ghost use Rattle.brk_money.specs.declared.refusal.Refusal.TheVariants.{BadText};
 
-use brk_money::Fault;
 use std::alloc::{AllocError, Global};
 use std::marker::{Model, PhantomData};
 
@@ -52,9 +50,8 @@ impl<F: Form> Text<F> {
     }
 
     /// Copies the bytes, or returns `None` if they do not have the format.
-    pub fn parse(alloc: Global, bytes: &[u8]) -> Result<Option<Text<F>>, Fault>
+    pub fn parse(alloc: Global, bytes: &[u8]) -> Result<Option<Text<F>>, AllocError>
         ensures read { IfOk result (λ text. ok_or text BadText ≡ read_valid_text F.form bytes.now) }
-        ensures fault { OnErr result (result ≡ Err Memory) }
     {
         let Ok(text) = str::from_utf8(bytes) else {
             return Ok(None);

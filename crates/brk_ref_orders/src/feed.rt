@@ -1,15 +1,14 @@
-ghost use Rattle.std.specs.Prelude.{◌≡◌, IfOk, OnErr, Err, nat_le, if◌then◌else◌};
+ghost use Rattle.std.specs.Prelude.{◌≡◌, IfOk, nat_le, if◌then◌else◌};
 ghost use Rattle.brk_model.specs.Forms as forms;
 ghost use Rattle.brk_model.specs.Forms.{one_to_twenty_elements};
 ghost use Rattle.brk_model.specs.Parse.{read_feed, read_ticks};
-ghost use Rattle.brk_money.specs.declared.fault.Fault.TheVariants.{Memory};
 ghost use Rattle.brk_ref_orders.specs.Reading.{appended_parse_results, abstract_parse_result};
 ghost use Rattle.brk_ref_orders.specs.Records.{abstract_tick_as_list, abstract_ticks_of_vector, abstract_ticks};
 ghost use Rattle.brk_ref.specs.Fields.{ParsesAs, texts_of_fields};
 
 use crate::tick::{Tick, parse_tick};
 use brk_money::{Planned, Refusal};
-use std::alloc::Global;
+use std::alloc::{AllocError, Global};
 use std::marker::Model;
 
 /// The 1 to 20 ticks of a market feed, in the sequence in which they are applied.
@@ -78,10 +77,12 @@ fn earlier_refusal(one: Refusal, other: Refusal) -> Refusal
 }
 
 // A refusal does not end the ticks: a later one may fail an earlier check.
-fn append_tick(ticks: Result<Vec<Tick>, Refusal>, tick: Result<Tick, Refusal>) -> Planned<Vec<Tick>>
+fn append_tick(
+    ticks: Result<Vec<Tick>, Refusal>,
+    tick: Result<Tick, Refusal>,
+) -> Planned<Vec<Tick>, AllocError>
     ensures read { IfOk result (λ read. abstract_parse_result abstract_ticks_of_vector read
         ≡ appended_parse_results (abstract_parse_result abstract_ticks_of_vector ticks) (abstract_parse_result abstract_tick_as_list tick)) }
-    ensures fault { OnErr result (result ≡ Err Memory) }
 {
     match (ticks, tick) {
         (Ok(mut ticks), Ok(tick)) => {
@@ -94,9 +95,8 @@ fn append_tick(ticks: Result<Vec<Tick>, Refusal>, tick: Result<Tick, Refusal>) -
     }
 }
 
-fn parse_ticks(alloc: Global, fields: &[&[u8]]) -> Planned<Vec<Tick>>
-    ensures read { IfOk result (λ read. ParsesAs abstract_ticks_of_vector read (read_ticks (texts_of_fields fields.now))) }
-    ensures fault { OnErr result (result ≡ Err Memory) }
+fn parse_ticks(alloc: Global, fields: &[&[u8]]) -> Planned<Vec<Tick>, AllocError>
+    ensures { IfOk result (λ read. ParsesAs abstract_ticks_of_vector read (read_ticks (texts_of_fields fields.now))) }
 {
     let mut ticks = Ok(Vec::new(alloc));
     let mut rest = fields;
@@ -114,9 +114,8 @@ fn parse_ticks(alloc: Global, fields: &[&[u8]]) -> Planned<Vec<Tick>>
 /// Parses the fields SYMBOL, PRICE and QTY of each of 1 to 20 ticks. Refuses with the first of
 /// these that applies to any tick: `BadText` (18), `BadQty` (8), `BadPrice` (9); otherwise with
 /// `TooMany` (20). Without a tick, it refuses with `BadText`.
-pub fn parse_market_feed(alloc: Global, fields: &[&[u8]]) -> Planned<Feed>
+pub fn parse_market_feed(alloc: Global, fields: &[&[u8]]) -> Planned<Feed, AllocError>
     ensures read { IfOk result (λ read. ParsesAs abstract_ticks read (read_feed (texts_of_fields fields.now))) }
-    ensures fault { OnErr result (result ≡ Err Memory) }
 {
     match parse_ticks(alloc, fields)? {
         Ok(ticks) => Ok(Feed::new(ticks)),

@@ -1,17 +1,16 @@
-ghost use Rattle.std.specs.Prelude.{◌≡◌, IfOk, OnErr, Err, Some, option_map};
+ghost use Rattle.std.specs.Prelude.{◌≡◌, IfOk, Err, Some, option_map};
 ghost use Rattle.std.specs.Option.{ok_or};
 ghost use Rattle.brk_model.specs.Forms as forms;
 ghost use Rattle.brk_model.specs.Forms.{read_word_as_boolean, read_price};
 ghost use Rattle.brk_model.specs.Parse.{read_executor, read_order};
-ghost use Rattle.brk_money.specs.declared.fault.Fault.TheVariants.{Memory};
 ghost use Rattle.brk_money.specs.declared.refusal.Refusal.TheVariants.{BadText};
 ghost use Rattle.brk_ref_orders.specs.Records.{abstract_order, texts_of_order_fields};
 ghost use Rattle.brk_ref.specs.Records.{abstract_executor};
 ghost use Rattle.brk_ref.specs.Fields.{ParsesAs, texts_of_fields};
 
-use brk_money::{Fault, Id, OrderType, Planned, Price, Qty, Refusal, TradeType};
+use brk_money::{Id, OrderType, Planned, Price, Qty, Refusal, TradeType};
 use brk_ref::{Executor, Name, Symbol, TaxId, parse_id, parse_price, parse_qty, parse_type};
-use std::alloc::Global;
+use std::alloc::{AllocError, Global};
 
 /// A requested order (Trade-Order).
 #[derive(Drop)]
@@ -59,9 +58,8 @@ fn parse_executor(
     first_name: &[u8],
     last_name: &[u8],
     tax_id: &[u8],
-) -> Result<Option<Executor>, Fault>
+) -> Result<Option<Executor>, AllocError>
     ensures read { IfOk result (λ executor. ok_or (option_map abstract_executor executor) BadText ≡ read_executor first_name.now last_name.now tax_id.now) }
-    ensures fault { OnErr result (result ≡ Err Memory) }
 {
     let Some(first_name) = Name::parse(alloc, first_name)? else {
         return Ok(None);
@@ -122,9 +120,8 @@ fn order_type_with_price(kind: Option<TradeType>, price: &[u8]) -> Result<OrderT
     }
 }
 
-fn order_of_fields(alloc: Global, told: UnparsedOrder<'_>) -> Planned<Order>
-    ensures read { IfOk result (λ read. ParsesAs abstract_order read (read_order (texts_of_order_fields told.entry))) }
-    ensures fault { OnErr result (result ≡ Err Memory) }
+fn order_of_fields(alloc: Global, told: UnparsedOrder<'_>) -> Planned<Order, AllocError>
+    ensures { IfOk result (λ read. ParsesAs abstract_order read (read_order (texts_of_order_fields told.entry))) }
 {
     let Some(account) = parse_id(told.account) else {
         return Ok(Err(Refusal::BadText));
@@ -164,9 +161,8 @@ fn order_of_fields(alloc: Global, told: UnparsedOrder<'_>) -> Planned<Order>
 ///
 /// Refuses with the first of these that applies: `BadText` (18), `BadQty` (8), `BadPrice` (9), also
 /// if PRICE does not fit TYPE, and `BadType` (7).
-pub fn parse_trade_order(alloc: Global, fields: &[&[u8]]) -> Planned<Order>
-    ensures read { IfOk result (λ read. ParsesAs abstract_order read (read_order (texts_of_fields fields.now))) }
-    ensures fault { OnErr result (result ≡ Err Memory) }
+pub fn parse_trade_order(alloc: Global, fields: &[&[u8]]) -> Planned<Order, AllocError>
+    ensures { IfOk result (λ read. ParsesAs abstract_order read (read_order (texts_of_fields fields.now))) }
 {
     let [
         account,

@@ -1,12 +1,11 @@
-ghost use Rattle.std.specs.Prelude.{◌≡◌, ◌∷◌, [], IfOk, OnErr, Err};
+ghost use Rattle.std.specs.Prelude.{◌∷◌, [], IfOk};
 ghost use Rattle.brk_model.specs.Parse.{read_ticks};
-ghost use Rattle.brk_money.specs.declared.fault.Fault.TheVariants.{Memory};
 ghost use Rattle.brk_ref_orders.specs.Records.{abstract_tick_as_list};
 ghost use Rattle.brk_ref.specs.Fields.{ParsesAs};
 
 use brk_money::{Planned, Price, Qty, Refusal};
 use brk_ref::{Symbol, parse_price, parse_qty};
-use std::alloc::Global;
+use std::alloc::{AllocError, Global};
 
 /// A trade on the market, as a feed reports it (Market-Feed).
 #[derive(Drop)]
@@ -16,9 +15,13 @@ pub struct Tick {
     pub qty: Qty,
 }
 
-pub(crate) fn parse_tick(alloc: Global, symbol: &[u8], price: &[u8], qty: &[u8]) -> Planned<Tick>
+pub(crate) fn parse_tick(
+    alloc: Global,
+    symbol: &[u8],
+    price: &[u8],
+    qty: &[u8],
+) -> Planned<Tick, AllocError>
     ensures read { IfOk result (λ read. ParsesAs abstract_tick_as_list read (read_ticks (symbol.now ∷ price.now ∷ qty.now ∷ []))) }
-    ensures fault { OnErr result (result ≡ Err Memory) }
 {
     let Some(symbol) = Symbol::parse(alloc, symbol)? else {
         return Ok(Err(Refusal::BadText));

@@ -1,13 +1,12 @@
-ghost use Rattle.std.specs.Prelude.{◌≡◌, ◌==◌, IfOk, OnErr, Err};
+ghost use Rattle.std.specs.Prelude.{◌≡◌, ◌==◌, IfOk};
 ghost use Rattle.brk_model.specs.Forms.{one_to_twenty_distinct_ids, read_each_text, read_id, read_distinct_ids};
 ghost use Rattle.brk_model.specs.Lists.{all_distinct, contains_number};
-ghost use Rattle.brk_money.specs.declared.fault.Fault.TheVariants.{Memory};
 ghost use Rattle.brk_ref_orders.specs.Records.{ids_of_vector};
 ghost use Rattle.brk_ref.specs.Fields.{ParsesAs, texts_of_fields};
 
 use brk_money::{Id, Planned, Refusal};
 use brk_ref::parse_id;
-use std::alloc::Global;
+use std::alloc::{AllocError, Global};
 use std::marker::Model;
 
 /// The 1 to 20 different ids of trades that a row names, in the sequence of the row.
@@ -72,9 +71,8 @@ fn has_distinct_ids(ids: &[Id]) -> bool
     true
 }
 
-fn parse_ids(alloc: Global, fields: &[&[u8]]) -> Planned<Vec<Id>>
+fn parse_ids(alloc: Global, fields: &[&[u8]]) -> Planned<Vec<Id>, AllocError>
     ensures read { IfOk result (λ read. ParsesAs ids_of_vector read (read_each_text read_id (texts_of_fields fields.now))) }
-    ensures fault { OnErr result (result ≡ Err Memory) }
 {
     let mut ids = Vec::new(alloc);
     for field in fields {
@@ -88,9 +86,8 @@ fn parse_ids(alloc: Global, fields: &[&[u8]]) -> Planned<Vec<Id>>
 
 /// Parses an id from each field. Refuses with `BadText` (18), also without fields or if an id
 /// occurs twice, otherwise with `TooMany` (20) above 20 fields.
-pub fn parse_trade_ids(alloc: Global, fields: &[&[u8]]) -> Planned<TradeIds>
+pub fn parse_trade_ids(alloc: Global, fields: &[&[u8]]) -> Planned<TradeIds, AllocError>
     ensures read { IfOk result (λ read. ParsesAs (λ trades. trades) read (read_distinct_ids (texts_of_fields fields.now))) }
-    ensures fault { OnErr result (result ≡ Err Memory) }
 {
     match parse_ids(alloc, fields)? {
         Ok(ids) => Ok(TradeIds::new(ids)),

@@ -1,15 +1,14 @@
-ghost use Rattle.std.specs.Prelude.{◌≡◌, IfOk, OnErr, Err};
+ghost use Rattle.std.specs.Prelude.{IfOk};
 ghost use Rattle.brk_model.specs.Commands.{ChangeExecutors};
 ghost use Rattle.brk_model.specs.Forms.{read_distinct_ids};
 ghost use Rattle.brk_model.specs.Parse.{read_and_wrap, read_cash_type_update, read_cash_name_update};
-ghost use Rattle.brk_money.specs.declared.fault.Fault.TheVariants.{Memory};
 ghost use Rattle.brk_ref_orders.specs.Records.{text_update_command};
 ghost use Rattle.brk_ref.specs.Fields.{ParsesAs, texts_of_fields};
 
 use crate::trade_ids::{TradeIds, parse_trade_ids};
 use brk_money::{Id, Planned, Refusal};
 use brk_ref::{Span, Symbol, parse_id, parse_stamp};
-use std::alloc::Global;
+use std::alloc::{AllocError, Global};
 
 /// A requested text update (Trade-Update): the text that it replaces, and the trades that it
 /// selects.
@@ -26,9 +25,8 @@ pub enum Update {
 }
 
 /// Parses the ids of the trades, as `parse_trade_ids` does.
-pub fn parse_executor_update(alloc: Global, fields: &[&[u8]]) -> Planned<Update>
+pub fn parse_executor_update(alloc: Global, fields: &[&[u8]]) -> Planned<Update, AllocError>
     ensures read { IfOk result (λ read. ParsesAs text_update_command read (read_and_wrap ChangeExecutors read_distinct_ids (texts_of_fields fields.now))) }
-    ensures fault { OnErr result (result ≡ Err Memory) }
 {
     match parse_trade_ids(alloc, fields)? {
         Ok(trades) => Ok(Ok(Update::Executors(trades))),
@@ -58,9 +56,8 @@ pub fn parse_cash_type_update(fields: &[&[u8]]) -> Result<Update, Refusal>
 }
 
 /// Parses the fields SYMBOL, FROM and TO, as `parse_cash_type_update` does.
-pub fn parse_cash_name_update(alloc: Global, fields: &[&[u8]]) -> Planned<Update>
+pub fn parse_cash_name_update(alloc: Global, fields: &[&[u8]]) -> Planned<Update, AllocError>
     ensures read { IfOk result (λ read. ParsesAs text_update_command read (read_cash_name_update (texts_of_fields fields.now))) }
-    ensures fault { OnErr result (result ≡ Err Memory) }
 {
     let [symbol, first, last] = fields else {
         return Ok(Err(Refusal::BadText));

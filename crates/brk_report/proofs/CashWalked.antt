@@ -1,5 +1,5 @@
 -- The lines that a walk over cash rows writes with the visitor that opens a statement.
-use Rattle.std.proofs.Common.{◌≡◌, ℕ, List, [], ◌∷◌, ◌++◌, Option, Result, Ok, Err, inr, map, refl, sym, ap, subst, take, ◌∙◌}
+use Rattle.std.proofs.Common.{◌≡◌, ℕ, List, [], ◌∷◌, ◌++◌, Option, Result, Ok, Err, map, refl, sym, ap, subst, take, ◌∙◌}
 use Rattle.std.specs.Prelude.{nat_lt}
 use Rattle.std.specs.List.{FoldsTo}
 use Rattle.std.specs.Io.KnownBytes.{Appends}
@@ -9,7 +9,7 @@ use Rattle.sqlite_trees.specs.declared.store.Store.{Ghosts}
 use Rattle.sqlite.specs.Held.{Held, state}
 use Rattle.sqlite.specs.State.{HasCleanDisk}
 use Rattle.brk_money.specs.Spelling.{Text}
-use Rattle.brk_money.specs.declared.fault.Fault.TheVariants as fault
+use Rattle.brk_money.specs.declared.fault.CallFault.TheVariants as call
 use Rattle.brk_ref.specs.Rows.{abstract_cash_row}
 use Rattle.brk_ref.specs.declared.cash_row.CashRow as typed
 use Rattle.brk_model.specs.Statement.{text_of_lines}
@@ -23,26 +23,19 @@ use Rattle.brk_io.specs.declared.report_fault.LinesFault.{LinesFault}
 use Rattle.brk_io.specs.declared.report_fault.LinesFault.TheVariants.{Desk, Write}
 use Rattle.brk_report_lines.proofs.Composed.{appends_none, lines_parts, then_all}
 use Rattle.brk_report.specs.CashWalk.{lines_of_cash_row, lines_of_cash_rows, progress_after_cash_row, progress_after_cash_rows}
-use Rattle.brk_report.specs.StatementOutput.{IsLinesFaultOtherThanDamage}
 use Rattle.brk_report.specs.WalkFaults.{fault_of_walk_error}
 use Rattle.brk_report.specs.declared.statements.visitors.CashProgress.{CashProgress}
 use Rattle.brk_report.proofs.CashLists.{lines_of_cash_rows-append}
 
 -- ---- lines that may end with any line
 
-pub first_broken : (lines : List Text) (a b : Option Text) (e : LinesFault) → FailsWithinFirstLines lines a b e → IsLinesFaultOtherThanDamage e
-first_broken lines a b (Desk f) h = h.0
-first_broken lines a b Write h = tt
-
 -- No line is written before the fault `Store`.
-pub none_first : (lines : List Text) (a : Option Text) (e : LinesFault) → e ≡ Desk fault.Store → FailsWithinFirstLines lines a a e
-none_first lines a e is = subst (FailsWithinFirstLines lines a a) (sym is) (inr refl, ([], lines, refl, appends_none a))
+pub none_first : (lines : List Text) (a : Option Text) (e : LinesFault) → e ≡ Desk call.Store → FailsWithinFirstLines lines a a e
+none_first lines a e is = subst (FailsWithinFirstLines lines a a) (sym is) ([], lines, refl, appends_none a)
 
 -- First lines of `ys` behind the lines `xs`, which are written, are first lines of both.
 pub first_behind : (xs ys : List Text) (a b c : Option Text) (e : LinesFault) → Appends a b (text_of_lines xs) → FailsWithinFirstLines ys b c e → FailsWithinFirstLines (xs ++ ys) a c e
-first_behind xs ys a b c (Desk f) h k =
-    let w = k.1 in
-    (k.0, (xs ++ w.0, w.1, append_assoc xs w.0 w.1 ∙ ap (λ (l : List Text). xs ++ l) w.2, then_all xs w.0 a b c h w.3))
+first_behind xs ys a b c (Desk f) h w = (xs ++ w.0, w.1, append_assoc xs w.0 w.1 ∙ ap (λ (l : List Text). xs ++ l) w.2, then_all xs w.0 a b c h w.3)
 first_behind xs ys a b c Write h k = (
   xs ++ k.0,
   k.1,
@@ -55,7 +48,7 @@ first_behind xs ys a b c Write h k = (
 
 -- First lines of `xs` are first lines of `xs` and `ys`.
 pub first_before : (xs ys : List Text) (a b : Option Text) (e : LinesFault) → FailsWithinFirstLines xs a b e → FailsWithinFirstLines (xs ++ ys) a b e
-first_before xs ys a b (Desk f) h = let w = h.1 in (h.0, (w.0, w.1 ++ ys, sym (append_assoc w.0 w.1 ys) ∙ ap (λ (l : List Text). l ++ ys) w.2, w.3))
+first_before xs ys a b (Desk f) w = (w.0, w.1 ++ ys, sym (append_assoc w.0 w.1 ys) ∙ ap (λ (l : List Text). l ++ ys) w.2, w.3)
 first_before xs ys a b Write h = (h.0, h.1, h.2 ++ ys, h.3, sym (append_assoc h.0 (h.1 ∷ h.2) ys) ∙ ap (λ (l : List Text). l ++ ys) h.4, h.5)
 
 -- ---- the walk
@@ -100,16 +93,13 @@ module _ {S V : Type 0} (g : Ghosts S) (old new : Held S) (list : Tables → Lis
       → FailsWithinFirstLines (lines_of_cash_rows (first before) (moved before) (list t)) (contents before) (contents after) (fault_of_walk_error stop)
   walk_first (Failed fault) e =
       let h = rw e at (walked.early clean) in
-      let b = h.1.2 t holds in
-      let rows = map abstract_cash_row h.1.0 in
+      let b = h.2 t holds in
+      let rows = map abstract_cash_row h.0 in
       let from = moved before in (
-        h.0,
-        (
-          lines_of_cash_rows (first before) from rows,
-          lines_of_cash_rows (first before) (progress_after_cash_rows (first before) from rows) b.0,
-          sym (lines_of_cash_rows-append (first before) from rows b.0) ∙ ap (lines_of_cash_rows (first before) from) b.1,
-          (taken before h.1.0 after h.1.1).0,
-        ),
+        lines_of_cash_rows (first before) from rows,
+        lines_of_cash_rows (first before) (progress_after_cash_rows (first before) from rows) b.0,
+        sym (lines_of_cash_rows-append (first before) from rows b.0) ∙ ap (lines_of_cash_rows (first before) from) b.1,
+        (taken before h.0 after h.1).0,
       )
   walk_first (Cause fault) e =
       let h = rw e at (walked.early clean) in

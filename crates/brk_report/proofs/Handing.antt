@@ -1,11 +1,9 @@
 -- The whole fails with the fault of the part that fails.
-use Rattle.std.proofs.Common.{◌≡◌, ℕ, ℤ, List, [], ◌∷◌, ◌++◌, Option, Result, Ok, Err, OnErr, IfErr, refl, sym, subst, inl, inr}
+use Rattle.std.proofs.Common.{◌≡◌, ℕ, ℤ, List, [], ◌∷◌, ◌++◌, Option, Result, Ok, Err, IfErr, refl, sym, subst}
 use Rattle.std.specs.Prelude.{IsErrAnd}
 use Rattle.std.specs.Io.KnownBytes.{Appends}
 use Rattle.brk_money.specs.Spelling.{Text}
-use Rattle.brk_money.specs.declared.fault.Fault.{Fault}
-use Rattle.brk_money.specs.declared.fault.Fault.TheVariants as fault
-use Rattle.brk_model.specs.Run.{IsCallFault}
+use Rattle.brk_money.specs.declared.fault.CallFault.TheVariants as call
 use Rattle.brk_model.specs.Statement.{text_of_lines}
 use Rattle.brk_model.specs.Tables.{Tables}
 use Rattle.brk_report_lines.specs.Written.{FailsWithinFirstLines, FailsWithinLines, WritesLines}
@@ -15,11 +13,6 @@ use Rattle.brk_report.specs.CashWalk.{WritesCashLines, opening_and_cash_lines}
 use Rattle.brk_report.specs.StatementParts.{WritesCashAndClosingLines, cash_and_closing_lines}
 use Rattle.brk_report.specs.declared.statements.visitors.CashProgress.{CashProgress}
 use Rattle.brk_report_lines.proofs.Composed.{appends_none, breaks_before, breaks_behind, then_all}
-
--- want of memory is a fault that a call may have
-pub wants : {V : Type 0} (r : Result V Fault) → OnErr r (r ≡ Err fault.Memory) → IfErr r IsCallFault
-wants (Ok v) h = tt
-wants (Err e) h = inl (let same = h in cc)
 
 -- the error is handed on
 pub on_err : {Y : Type 0} (P : LinesFault → Type 0) (outer : Result Y LinesFault) (e : LinesFault) → IsErrAnd outer (λ out. out ≡ e) → P e → IfErr outer P
@@ -32,8 +25,8 @@ breaks_as lines a b (Err out) e is h = subst (FailsWithinLines lines a b) (sym i
 breaks_as lines a b (Ok y) e is h = absurd is
 
 -- nothing is written before the line
-pub nothing_yet : (line : Text) (a : Option Text) (e : LinesFault) → e ≡ Desk fault.Store → FailsWithinLines (line ∷ []) a a e
-nothing_yet line a e is = subst (FailsWithinLines (line ∷ []) a a) (sym is) (inr refl, ([], line, [], refl, appends_none a))
+pub nothing_yet : (line : Text) (a : Option Text) (e : LinesFault) → e ≡ Desk call.Store → FailsWithinLines (line ∷ []) a a e
+nothing_yet line a e is = subst (FailsWithinLines (line ∷ []) a a) (sym is) ([], line, [], refl, appends_none a)
 
 -- ---- one line before others
 

@@ -1,5 +1,5 @@
 -- The lines and the count of a walk with a visitor that writes lines, and the fault that ends it.
-use Rattle.std.proofs.Common.{◌≡◌, ℕ, ◌+◌, List, [], ◌∷◌, ◌++◌, IfErr, Option, Result, Ok, Err, length, map, refl, sym, ap, subst, ◌∙◌, arith}
+use Rattle.std.proofs.Common.{◌≡◌, ℕ, ◌+◌, List, [], ◌∷◌, ◌++◌, Option, Result, Ok, Err, length, map, refl, sym, ap, subst, ◌∙◌, arith}
 use Rattle.std.specs.List.{FoldsTo}
 use Rattle.std.specs.Io.KnownBytes.{Appends}
 use Rattle.std.proofs.KnownBytes.{Appends-trans}
@@ -13,8 +13,7 @@ use Rattle.brk_store_transactions.specs.Holds.{HoldsRows}
 use Rattle.brk_store.specs.Walked.{WalkPost}
 use Rattle.brk_tables_views.specs.declared.walking.WalkError.{WalkError}
 use Rattle.brk_tables_views.specs.declared.walking.WalkError.TheVariants.{Failed, Cause}
-use Rattle.brk_report_lines.specs.Written.{FailsWithinLines, FailsWithinFirstLines, WritesLines, line_with_line_feed}
-use Rattle.brk_report.specs.StatementOutput.{IsLinesFaultOtherThanDamage}
+use Rattle.brk_report_lines.specs.Written.{FailsWithinLines, FailsWithinFirstLines, line_with_line_feed}
 use Rattle.brk_io.specs.declared.report_fault.LinesFault.{LinesFault}
 use Rattle.brk_io.specs.declared.report_fault.LinesFault.TheVariants.{Desk, Write}
 use Rattle.brk_report_lines.proofs.Composed.{appends_none, breaks_before, breaks_behind}
@@ -26,26 +25,8 @@ map_parts f (x ∷ xs) ys = ap (λ l. f x ∷ l) (map_parts f xs ys)
 
 -- a part that may end with any line is one that may have all its lines written
 pub weaker : (lines : List Text) (a b : Option Text) (e : LinesFault) → FailsWithinLines lines a b e → FailsWithinFirstLines lines a b e
-weaker lines a b (Desk f) h = (h.0, (h.1.0, h.1.1 ∷ h.1.2, h.1.3, h.1.4))
+weaker lines a b (Desk f) h = (h.0, h.1 ∷ h.2, h.3, h.4)
 weaker lines a b Write h = h
-
--- ---- why it ended
-
-pub in_broken : (lines : List Text) (a b : Option Text) (e : LinesFault) → FailsWithinLines lines a b e → IsLinesFaultOtherThanDamage e
-in_broken lines a b (Desk f) h = h.0
-in_broken lines a b Write h = tt
-
-pub in_written : {Y : Type 0} (lines : List Text) (a b : Option Text) (r : Result Y LinesFault) → WritesLines lines a b r → IfErr r IsLinesFaultOtherThanDamage
-in_written lines a b (Ok y) h = tt
-in_written lines a b (Err e) h = in_broken lines a b e h
-
--- the fault of a walk, whatever the disk
-module _ {S X M V : Type 0} (g : Ghosts S) (old new : Held S) (of : X → M) (list : Tables → List M) (takes : V → X → V → Type 0) (stops : V → X → LinesFault → V → Type 0) (before after : V)
-    (result : Result (Unit {0}) (WalkError LinesFault)) (walked : WalkPost g old new of list takes stops before after result) where
-  pub known_end : ((p : V) (x : X) (e : LinesFault) (q : V) → stops p x e q → IsLinesFaultOtherThanDamage e) → (stop : WalkError LinesFault) → result ≡ Err stop
-      → (e : LinesFault) → e ≡ fault_of_walk_error stop → IsLinesFaultOtherThanDamage e
-  known_end may (Failed cause) is e same = let h = rw is at (walked.fault) in subst IsLinesFaultOtherThanDamage (sym same) h
-  known_end may (Cause cause) is e same = let h = rw is at (walked.fault) in subst IsLinesFaultOtherThanDamage (sym same) (may h.0 h.1 cause after h.2)
 
 module _ {S X M V : Type 0} (g : Ghosts S) (old new : Held S) (of : X → M) (list : Tables → List M) (takes : V → X → V → Type 0) (stops : V → X → LinesFault → V → Type 0) (before after : V)
     (t : Tables) (clean : HasCleanDisk (state g new)) (holds : HoldsRows g old t) (result : Result (Unit {0}) (WalkError LinesFault))
@@ -72,8 +53,8 @@ module _ {S X M V : Type 0} (g : Ghosts S) (old new : Held S) (of : X → M) (li
     pub written_first : (stop : WalkError LinesFault) → result ≡ Err stop → FailsWithinFirstLines (map line (list t)) (contents before) (contents after) (fault_of_walk_error stop)
     written_first (Failed fault) e =
         let h = rw e at (walked.early clean) in
-        let b = h.1.2 t holds in
-        (h.0, (map line (map of h.1.0), map line b.0, sym (map_parts line (map of h.1.0) b.0) ∙ ap (map line) b.1, (lines_taken before h.1.0 after h.1.1).0))
+        let b = h.2 t holds in
+        (map line (map of h.0), map line b.0, sym (map_parts line (map of h.0) b.0) ∙ ap (map line) b.1, (lines_taken before h.0 after h.1).0)
     written_first (Cause fault) e =
         let h = rw e at (walked.early clean) in
         let b = h.5 t holds in

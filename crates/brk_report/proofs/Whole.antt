@@ -20,6 +20,7 @@ use Rattle.brk_report_lines.specs.Written.{FailsWithinLines}
 use Rattle.brk_io.specs.declared.report_fault.LinesFault.{LinesFault}
 use Rattle.brk_io.specs.declared.report_fault.LinesFault.TheVariants.{Desk, Write}
 use Rattle.brk_desk_queries.specs.Heads.{IsStatementHeadOfAccount}
+use Rattle.brk_desk.proofs.Asked.{is_call_fault}
 
 pub passes_found : {X : Type 0} (p : X → Bool) (xs : List X) (x : X) → find p xs ≡ Some x → p x ≡ true
 passes_found p [] x e = absurd (let f = e in cc)
@@ -73,5 +74,5 @@ module _ (t : Tables) (account : ℕ) (head : Head) (from to : ℕ) (days : nat_
   states_all h = (text_of_lines (all_statement_lines t account head from to), statement_is t account from to (all_statement_lines t account head from to) are_lines, h)
 
   pub states_fault : (e : LinesFault) → FailsWithinLines (all_statement_lines t account head from to) a b e → WritesStatement t account from to a b (Err (report_fault_of_lines_fault e))
-  states_fault (Desk f) h = (h.0, inr (all_statement_lines t account head from to, are_lines, h.1))
+  states_fault (Desk f) h = (is_call_fault f, inr (all_statement_lines t account head from to, are_lines, h))
   states_fault Write h = (all_statement_lines t account head from to, are_lines, h)

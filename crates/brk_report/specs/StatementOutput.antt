@@ -14,7 +14,6 @@ use Rattle.brk_model.specs.Tables.{AccountRow, Tables}
 use Rattle.brk_store_transactions.specs.Holds.{HoldsRows, WasOpenAndIsUnchanged}
 use Rattle.brk_report_lines.specs.Written.{FailsWithinFirstLines, WritesProperPrefixOfLines, WritesLinesAndPartOfNext}
 use Rattle.brk_io.specs.declared.report_fault.LinesFault.{LinesFault}
-use Rattle.brk_io.specs.declared.report_fault.LinesFault.TheVariants as lines
 use Rattle.brk_io.specs.declared.report_fault.ReportFault.{ReportFault}
 use Rattle.brk_io.specs.declared.report_fault.ReportFault.TheVariants.{Refused, Desk, Write}
 
@@ -37,11 +36,6 @@ pub record PreservesDesk {S : Type 0} (g : Ghosts S) (old new : Held S) : Type 0
 -- all values of `Tables` satisfy `So`.
 abbrev pub HoldsForStoredTables : {S : Type 0} → Ghosts S → Held S → Held S → (Tables → Type 0) → Type 0
 HoldsForStoredTables g old new So = HasCleanDisk (state g new) → (t : Tables) → HoldsRows g old t → So t
-
--- The fault is a fault of the desk, `Memory` or `Store`, or a fault of the writer.
-abbrev pub IsLinesFaultOtherThanDamage : LinesFault → Type 0
-IsLinesFaultOtherThanDamage (lines.Desk fault) = IsCallFault fault
-IsLinesFaultOtherThanDamage lines.Write = Unit {0}
 
 -- ---- the parts of a statement
 

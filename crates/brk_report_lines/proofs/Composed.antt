@@ -22,9 +22,7 @@ pub then_all : (xs ys : List Text) (a b c : Option Text) → Appends a b (text_o
 then_all xs ys a b c h k = subst (Appends a c) (sym (lines_parts xs ys)) (Appends-trans _ _ _ _ _ h k)
 
 pub breaks_behind : (xs ys : List Text) (a b c : Option Text) (e : LinesFault) → Appends a b (text_of_lines xs) → FailsWithinLines ys b c e → FailsWithinLines (xs ++ ys) a c e
-breaks_behind xs ys a b c (Desk f) h k =
-    let w = k.1 in
-    (k.0, (xs ++ w.0, w.1, w.2, append_assoc xs w.0 (w.1 ∷ w.2) ∙ ap (λ (l : List Text). xs ++ l) w.3, then_all xs w.0 a b c h w.4))
+breaks_behind xs ys a b c (Desk f) h w = (xs ++ w.0, w.1, w.2, append_assoc xs w.0 (w.1 ∷ w.2) ∙ ap (λ (l : List Text). xs ++ l) w.3, then_all xs w.0 a b c h w.4)
 breaks_behind xs ys a b c Write h k = (
   xs ++ k.0,
   k.1,
@@ -37,12 +35,12 @@ breaks_behind xs ys a b c Write h k = (
 
 -- lines that broke off, with more to come behind them
 pub breaks_before : (xs ys : List Text) (a b : Option Text) (e : LinesFault) → FailsWithinLines xs a b e → FailsWithinLines (xs ++ ys) a b e
-breaks_before xs ys a b (Desk f) h = let w = h.1 in (h.0, (w.0, w.1, w.2 ++ ys, sym (append_assoc w.0 (w.1 ∷ w.2) ys) ∙ ap (λ (l : List Text). l ++ ys) w.3, w.4))
+breaks_before xs ys a b (Desk f) w = (w.0, w.1, w.2 ++ ys, sym (append_assoc w.0 (w.1 ∷ w.2) ys) ∙ ap (λ (l : List Text). l ++ ys) w.3, w.4)
 breaks_before xs ys a b Write h = (h.0, h.1, h.2 ++ ys, h.3, sym (append_assoc h.0 (h.1 ∷ h.2) ys) ∙ ap (λ (l : List Text). l ++ ys) h.4, h.5)
 
 -- lines that may all be written, with one more behind them that is not
 pub breaks_off : (xs : List Text) (y : Text) (ys : List Text) (a b : Option Text) (e : LinesFault) → FailsWithinFirstLines xs a b e → FailsWithinLines (xs ++ y ∷ ys) a b e
-breaks_off xs y ys a b (Desk f) h = (h.0, next h.1.0 h.1.1 h.1.2 h.1.3)
+breaks_off xs y ys a b (Desk f) h = next h.0 h.1 h.2 h.3
   where
     next : (first rest : List Text) → first ++ rest ≡ xs → Appends a b (text_of_lines first) → WritesProperPrefixOfLines (xs ++ y ∷ ys) a b
     next first [] e k = (first, y, ys, ap (λ (l : List Text). l ++ y ∷ ys) (sym (append-nil first) ∙ e), k)

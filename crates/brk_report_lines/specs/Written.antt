@@ -4,7 +4,6 @@ use Rattle.std.specs.Prelude.{◌≡◌, ℕ, List, [], ◌∷◌, ◌++◌, Opt
 use Rattle.std.specs.Io.KnownBytes.{Appends}
 use Rattle.brk_money.specs.Spelling.{Text}
 use Rattle.brk_model.specs.Statement.{text_of_lines}
-use Rattle.brk_model.specs.Run.{IsCallFault}
 use Rattle.brk_io.specs.declared.report_fault.LinesFault.{LinesFault}
 use Rattle.brk_io.specs.declared.report_fault.LinesFault.TheVariants.{Desk, Write}
 
@@ -27,24 +26,21 @@ WritesLinesAndPartOfNext lines old new =
     (first : List Text) × (next : Text) × (rest : List Text) × (k : ℕ) × (first ++ next ∷ rest ≡ lines)
     × Appends old new (text_of_lines first ++ take k (line_with_line_feed next))
 
--- Writing `lines` failed with this fault. `Desk`: its fault is `Memory` or `Store`, and the first
--- lines were written whole, perhaps none and never the last one. `Write`: the first lines were
--- written whole, perhaps none, and then a prefix of the next one with its line feed, perhaps empty
--- or all of it. Never holds if `lines` is empty. If the writer's content before is unknown, it
--- states only the fault and that `lines` is not empty.
+-- Writing `lines` failed with this fault. `Desk`: the first lines were written whole, perhaps none
+-- and never the last one. `Write`: the first lines were written whole, perhaps none, and then a
+-- prefix of the next one with its line feed, perhaps empty or all of it. Never holds if `lines` is
+-- empty. If the writer's content before is unknown, it states only that `lines` is not empty.
 abbrev pub FailsWithinLines : List Text → Option Text → Option Text → LinesFault → Type 0
-FailsWithinLines lines old new (Desk fault) = IsCallFault fault × WritesProperPrefixOfLines lines old new
+FailsWithinLines lines old new (Desk fault) = WritesProperPrefixOfLines lines old new
 FailsWithinLines lines old new Write = WritesLinesAndPartOfNext lines old new
 
--- Writing a longer text that begins with `lines` failed with this fault within `lines`. `Desk`: its
--- fault is `Memory` or `Store`, and the first of `lines` were written whole, perhaps none or all of
--- them. `Write`: the first of `lines` were written whole, perhaps none, and then a prefix of the
--- next one with its line feed, perhaps empty or all of it; never holds if `lines` is empty. If the
--- writer's content before is unknown, `Desk` states only the fault, and `Write` only that `lines`
--- is not empty.
+-- Writing a longer text that begins with `lines` failed with this fault within `lines`. `Desk`: the
+-- first of `lines` were written whole, perhaps none or all of them. `Write`: the first of `lines`
+-- were written whole, perhaps none, and then a prefix of the next one with its line feed, perhaps
+-- empty or all of it; never holds if `lines` is empty. If the writer's content before is unknown,
+-- `Desk` states nothing, and `Write` only that `lines` is not empty.
 abbrev pub FailsWithinFirstLines : List Text → Option Text → Option Text → LinesFault → Type 0
-FailsWithinFirstLines lines old new (Desk fault) =
-    IsCallFault fault × ((first : List Text) × (rest : List Text) × (first ++ rest ≡ lines) × Appends old new (text_of_lines first))
+FailsWithinFirstLines lines old new (Desk fault) = (first : List Text) × (rest : List Text) × (first ++ rest ≡ lines) × Appends old new (text_of_lines first)
 FailsWithinFirstLines lines old new Write = WritesLinesAndPartOfNext lines old new
 
 -- `Ok`: exactly the lines `lines` were written; it states nothing if the writer's content before is

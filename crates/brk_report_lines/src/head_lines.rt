@@ -1,22 +1,20 @@
 //! The lines of a statement that show no row, each with its line feed. The functions fail with
 //! `Memory` only.
 
-ghost use Rattle.std.specs.Prelude.{◌≡◌, ◌++◌, Err, IfOk, OnErr, codes, decimal};
+ghost use Rattle.std.specs.Prelude.{◌≡◌, ◌++◌, IfOk, codes, decimal};
 ghost use Rattle.brk_money.specs.Spelling.{day_text};
-ghost use Rattle.brk_money.specs.declared.fault.Fault.TheVariants.{Memory};
 ghost use Rattle.brk_model.specs.Statement as statement;
 ghost use Rattle.brk_report_lines.specs.Written.{line_with_line_feed};
 
 use crate::columns::{append_left, append_right};
-use brk_money::{Day, Fault, Id, Wide, write_cents, write_day};
+use brk_money::{Day, Id, Wide, append_cents, append_day};
 use brk_ref::Name;
 use itoa::Buffer;
-use std::alloc::Global;
+use std::alloc::{AllocError, Global};
 
 /// Returns `Statement of account ID`.
-pub fn title_line(alloc: Global, account: Id) -> Result<Vec<u8>, Fault>
-    ensures line { IfOk result (λ line. line.items ≡ line_with_line_feed (codes "Statement of account " ++ decimal account)) }
-    ensures fault { OnErr result (result ≡ Err Memory) }
+pub fn title_line(alloc: Global, account: Id) -> Result<Vec<u8>, AllocError>
+    ensures { IfOk result (λ line. line.items ≡ line_with_line_feed (codes "Statement of account " ++ decimal account)) }
 {
     let mut buffer = Buffer::new();
     let mut line = Vec::from_slice(alloc, b"Statement of account ")?;
@@ -25,9 +23,8 @@ pub fn title_line(alloc: Global, account: Id) -> Result<Vec<u8>, Fault>
     Ok(line)
 }
 
-pub fn name_line(alloc: Global, name: &Name) -> Result<Vec<u8>, Fault>
-    ensures line { IfOk result (λ line. line.items ≡ line_with_line_feed name.now) }
-    ensures fault { OnErr result (result ≡ Err Memory) }
+pub fn name_line(alloc: Global, name: &Name) -> Result<Vec<u8>, AllocError>
+    ensures { IfOk result (λ line. line.items ≡ line_with_line_feed name.now) }
 {
     let mut line = Vec::from_slice(alloc, name.as_str().as_bytes())?;
     line.push(b'\n')?;
@@ -35,26 +32,24 @@ pub fn name_line(alloc: Global, name: &Name) -> Result<Vec<u8>, Fault>
 }
 
 /// Returns `From DAY to DAY`, with days in the format YYYY-MM-DD.
-pub fn period_line(alloc: Global, from: Day, to: Day) -> Result<Vec<u8>, Fault>
-    ensures line { IfOk result (λ line. line.items ≡ line_with_line_feed (codes "From " ++ day_text from ++ codes " to " ++ day_text to)) }
-    ensures fault { OnErr result (result ≡ Err Memory) }
+pub fn period_line(alloc: Global, from: Day, to: Day) -> Result<Vec<u8>, AllocError>
+    ensures { IfOk result (λ line. line.items ≡ line_with_line_feed (codes "From " ++ day_text from ++ codes " to " ++ day_text to)) }
 {
     let mut line = Vec::from_slice(alloc, b"From ")?;
-    write_day(&mut line, from)?;
+    append_day(&mut line, from)?;
     line.extend_from_slice(b" to ")?;
-    write_day(&mut line, to)?;
+    append_day(&mut line, to)?;
     line.push(b'\n')?;
     Ok(line)
 }
 
 /// Returns `word`, left-aligned in 10 bytes, a space, and `amount` (in cents), with two decimal
 /// places, right-aligned in 22 bytes.
-pub fn amount_line(alloc: Global, word: &str, amount: Wide) -> Result<Vec<u8>, Fault>
-    ensures line { IfOk result (λ line. line.items ≡ line_with_line_feed (statement.amount_line word.now amount)) }
-    ensures fault { OnErr result (result ≡ Err Memory) }
+pub fn amount_line(alloc: Global, word: &str, amount: Wide) -> Result<Vec<u8>, AllocError>
+    ensures { IfOk result (λ line. line.items ≡ line_with_line_feed (statement.amount_line word.now amount)) }
 {
     let mut cents = Vec::new(alloc);
-    write_cents(&mut cents, amount)?;
+    append_cents(&mut cents, amount)?;
     let mut line = Vec::new(alloc);
     append_left(&mut line, 10, word.as_bytes())?;
     line.push(b' ')?;
@@ -64,9 +59,8 @@ pub fn amount_line(alloc: Global, word: &str, amount: Wide) -> Result<Vec<u8>, F
 }
 
 /// Returns `Cash rows N, lots N`, the last line of a statement.
-pub fn row_counts_line(alloc: Global, cash: u64, lots: u64) -> Result<Vec<u8>, Fault>
-    ensures line { IfOk result (λ line. line.items ≡ line_with_line_feed (codes "Cash rows " ++ decimal cash ++ codes ", lots " ++ decimal lots)) }
-    ensures fault { OnErr result (result ≡ Err Memory) }
+pub fn row_counts_line(alloc: Global, cash: u64, lots: u64) -> Result<Vec<u8>, AllocError>
+    ensures { IfOk result (λ line. line.items ≡ line_with_line_feed (codes "Cash rows " ++ decimal cash ++ codes ", lots " ++ decimal lots)) }
 {
     let mut buffer = Buffer::new();
     let mut line = Vec::from_slice(alloc, b"Cash rows ")?;

@@ -1,9 +1,9 @@
 -- The index of a store, from one call to the next.
-use Rattle.std.proofs.Common.{◌≡◌, Bool, false, Option, None, Result, Ok, IsTrue, sym, subst}
+use Rattle.std.proofs.Common.{◌≡◌, Bool, false, Option, None, Result, Ok, Err, IsTrue, sym, subst}
 use Rattle.sqlite_trees.specs.declared.store.Store.{Ghosts}
 use Rattle.sqlite.specs.Held.{Held, state}
 use Rattle.sqlite.specs.State.{HasCleanDisk, Survives, IsRolledBack}
-use Rattle.brk_money.specs.declared.fault.Fault.{Fault}
+use Rattle.brk_money.specs.declared.fault.StoreFailed.{StoreFailed}
 use Rattle.brk_model.specs.Tables.{Tables}
 use Rattle.brk_tables_sql.specs.Model.{IsTransactionStep, IsUnchangedAndSatisfies}
 use Rattle.brk_tables_sql.proofs.Inside.{clean_before}
@@ -27,13 +27,38 @@ module _ {S : Type 0} (g : Ghosts S) (old new : Held S) (known : Bool) (index : 
         (c.0, subst (HasDeskTables c.0) (sym s.now) c.1, c.2);
   }
 
-  pub index_after_changes : (more : Option LotIndex) (after : Tables → Tables) → ApplyPost {V = Unit {0}} {E = Fault} g old new (Ok tt) after
+  pub index_after_changes : (more : Option LotIndex) (after : Tables → Tables) → ApplyPost {V = Unit {0}} {E = StoreFailed} g old new (Ok tt) after
       → ((t : Tables) → IsIndexOfTables index t → IsIndexOfTables more (after t)) → IndexIsTrue g old known index → IndexIsTrue g new known more
   index_after_changes more after post adds is = record {
     indexed = λ k clean on.
         let c = is.indexed k (clean_before (state g old) (state g new) _ post.survives clean) (post.open_and_committed clean).0 in
         (after c.0, post.applied c.0 (λ _ _. c.1) clean on, adds c.0 c.2);
   }
+
+-- A call that changes rows, by another type of its error.
+pub applied_as : {S V E F : Type 0} (g : Ghosts S) (old new : Held S) (v : V) (after : Tables → Tables) → ApplyPost {E = E} g old new (Ok v) after
+    → ApplyPost {E = F} g old new (Ok v) after
+applied_as g old new v after post = record {
+  applied = post.applied;
+  open_and_committed = post.open_and_committed;
+  other_tables = post.other_tables;
+  same_rows_at_error = tt;
+  unchanged_if_open = λ clean on. tt;
+  survives = post.survives;
+  durable = post.durable;
+}
+
+pub not_applied_as : {S V E F : Type 0} (g : Ghosts S) (old new : Held S) (e : E) (fault : F) (after : Tables → Tables)
+    → ApplyPost {V = V} g old new (Err e) after → ApplyPost {V = V} g old new (Err fault) after
+not_applied_as g old new e fault after post = record {
+  applied = tt;
+  open_and_committed = λ clean. tt;
+  other_tables = λ clean. tt;
+  same_rows_at_error = post.same_rows_at_error;
+  unchanged_if_open = post.unchanged_if_open;
+  survives = post.survives;
+  durable = λ clean. tt;
+}
 
 -- the rows of an adopted store are there, if the tables are defined as a desk defines them
 pub index_of_adopted : {S : Type 0} (g : Ghosts S) (old new : Held S) (known : Bool) → (IsTrue known → IsTrue (state g old).is_open → TablesWithDeskNamesAreDeskTables (state g old).now)

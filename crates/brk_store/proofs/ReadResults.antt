@@ -4,7 +4,6 @@ use Rattle.std.specs.Prelude.{OnOk}
 use Rattle.sqlite_trees.specs.declared.store.Store.{Ghosts}
 use Rattle.sqlite.specs.Held.{Held, state}
 use Rattle.sqlite.specs.State.{HasCleanDisk}
-use Rattle.brk_money.specs.declared.fault.Fault.{Fault}
 use Rattle.brk_model.specs.Tables.{Tables}
 use Rattle.brk_store_transactions.specs.Holds.{HoldsRows, ReadPost}
 use Rattle.brk_store.specs.ReadSequences.{IsUnchangedByReads, disk_was_clean_before_reads}
@@ -13,7 +12,7 @@ use Rattle.brk_store.proofs.Sequences.{none_then, same_then}
 
 module _ {S : Type 0} (g : Ghosts S) (old mid : Held S) where
   -- an answer that follows from what was read; or no memory for it
-  pub decided : {V X E : Type 0} (v : V) (P : V → Tables → Type 0) (R : X → Tables → Type 0) (result : Result X Fault) → ReadPost {E = E} g old mid (Ok v) P
+  pub decided : {V X E F : Type 0} (v : V) (P : V → Tables → Type 0) (R : X → Tables → Type 0) (result : Result X F) → ReadPost {E = E} g old mid (Ok v) P
       → IfOk result (λ x. (t : Tables) → P v t → R x t) → ReadPost g old mid result R
   decided v P R (Ok x) read tell = retold g old mid v x P R tell read
   decided v P R (Err fault) read none =
@@ -21,9 +20,9 @@ module _ {S : Type 0} (g : Ghosts S) (old mid : Held S) where
 
 module _ {S : Type 0} (g : Ghosts S) (old mid end : Held S) where
   -- an answer that follows from what was read, and from what was read on in a store that is kept
-  pub decided_on : {V X E : Type 0} (v : V) (P : V → Tables → Type 0) (R : X → Tables → Type 0) (result : Result X Fault) → ReadPost {E = E} g old mid (Ok v) P → IsUnchangedByReads g mid end
+  pub decided_on : {V X E F : Type 0} (v : V) (P : V → Tables → Type 0) (R : X → Tables → Type 0) (result : Result X F) → ReadPost {E = E} g old mid (Ok v) P → IsUnchangedByReads g mid end
       → (HasCleanDisk (state g end) → IfOk result (λ x. (t : Tables) → HoldsRows g mid t → P v t → R x t)) → ReadPost g old end result R
-  decided_on {V} {X} v P R result read on tell = record {
+  decided_on {V} {X} {E} {F} v P R result read on tell = record {
     answered = λ clean. answered (disk_was_clean_before_reads mid end on clean) result (tell clean);
     was_open = λ clean. was_open (read.was_open (disk_was_clean_before_reads mid end on clean)) result;
     same_rows = λ t h. on.same_rows t (read.same_rows t h);
@@ -31,11 +30,11 @@ module _ {S : Type 0} (g : Ghosts S) (old mid end : Held S) where
         same_then (state g old) (state g mid) (state g end) (read.unchanged_if_open (disk_was_clean_before_reads mid end on clean) s.was_open) s;
     survives = none_then (state g old) (state g mid) (state g end) (λ _. ⊥) read.survives on.survives;
   } where
-    answered : HasCleanDisk (state g mid) → (r : Result X Fault) → IfOk r (λ x. (t : Tables) → HoldsRows g mid t → P v t → R x t) → IfOk r (λ x. (t : Tables) → HoldsRows g old t → R x t)
+    answered : HasCleanDisk (state g mid) → (r : Result X F) → IfOk r (λ x. (t : Tables) → HoldsRows g mid t → P v t → R x t) → IfOk r (λ x. (t : Tables) → HoldsRows g old t → R x t)
     answered clean (Ok x) tell = λ t h. tell t (read.same_rows t h) (read.answered clean t h)
     answered clean (Err fault) tell = tt
 
-    was_open : {Q : Type 0} → Q → (r : Result X Fault) → OnOk r Q
+    was_open : {Q : Type 0} → Q → (r : Result X F) → OnOk r Q
     was_open q (Ok x) = q
     was_open q (Err fault) = tt
 

@@ -28,7 +28,7 @@ module _ {S X M V E : Type 0} (g : Ghosts S) (old new : Held S) (of : X → M) (
   breaks_of : HasCleanDisk (state g old) → (stop : WalkError E)
       → TableWalkEndsEarly (tables.IsPrefixOfList (state g old) walked) of takes stops before after stop
       → TableWalkEndsEarly (IsPrefixOfStoredList g old list) of takes stops before after stop
-  breaks_of clean (Failed fault) h = (h.0, (h.1.0, h.1.1, first_of clean (map of h.1.0) h.1.2))
+  breaks_of clean (Failed fault) h = (h.0, h.1, first_of clean (map of h.0) h.2)
   breaks_of clean (Cause e) h = (h.0, h.1, h.2, h.3, h.4, first_of clean (map of (h.0 ++ h.1 ∷ [])) h.5)
 
   pub is_walked : (result : Result (Unit {0}) (WalkError E)) → TableWalkPost g old new of walked takes stops before after result → WalkPost g old new of list takes stops before after result
@@ -89,7 +89,7 @@ is_walked_by {S} {X} {M} {V} {W} {E} g old new of list inner takes stops before 
         before after)
         → IfErr r (TableWalkEndsEarly (IsPrefixOfStoredList g old list) of takes stops (inner before) (inner after))
     broken (Ok u) h = tt
-    broken (Err (Failed fault)) h = (h.0, (h.1.0, folds_inner inner takes before h.1.0 after h.1.1, h.1.2))
+    broken (Err (Failed fault)) h = (h.0, folds_inner inner takes before h.0 after h.1, h.2)
     broken (Err (Cause e)) h = (h.0, h.1, inner h.2, folds_inner inner takes before h.0 h.2 h.3, h.4, h.5)
 
     ends : (r : Result (Unit {0}) (WalkError E)) → IfErr r (IsWalkError (λ p x e q. stops (inner p) x e (inner q)) after) → IfErr r (IsWalkError stops (inner after))

@@ -7,6 +7,7 @@ use Rattle.std.specs.Prelude.{◌≡◌, ℕ, List, ◌++◌, filter, Result, Ok
 use Rattle.sqlite_trees.specs.declared.store.Store.{Ghosts}
 use Rattle.sqlite.specs.Held.{Held, state}
 use Rattle.sqlite.specs.State.{HasCleanDisk, Survives}
+use Rattle.brk_money.specs.Kinds.{fault_of_call}
 use Rattle.brk_money.specs.declared.fault.Fault.{Fault}
 use Rattle.brk_model.specs.Limits.{is_in_range}
 use Rattle.brk_model.specs.Lists.{sort_by_key}
@@ -31,16 +32,11 @@ abbrev pub completed_trades_by_stamp : Tables → List TradeRow
 completed_trades_by_stamp t = sort_by_key (λ r. r.stamp) (filter (λ r. is_same_trade_status r.status Completed) t.trades)
 
 -- The records `all` equal the whole list that `list` selects from the rows that the store holds.
--- Vacuous if the store is open and satisfies `HasDeskTables` for no `t`. If the store is closed, or
--- the disk assumption fails, `all` has to equal `list t` for all rows `t`: no records do, if the
--- list depends on the rows.
+-- Vacuous if the store is open and satisfies `HasDeskTables` for no `t`.
 abbrev pub EqualsStoredList : {S M : Type 0} → Ghosts S → Held S → (Tables → List M) → List M → Type 0
 EqualsStoredList g store list all = (t : Tables) → HoldsRows g store t → all ≡ list t
 
--- The records `first` are a prefix of the list that `list` selects from the rows that the store
--- holds, possibly empty. Vacuous if the store is open and satisfies `HasDeskTables` for no `t`. If
--- the store is closed, or the disk assumption fails, `first` has to be a prefix of `list t` for all
--- rows `t`: only the empty list is one, if `list t` is empty for some rows `t`.
+-- The records `first` are a prefix of that list, possibly empty; vacuous as `EqualsStoredList` is.
 abbrev pub IsPrefixOfStoredList : {S M : Type 0} → Ghosts S → Held S → (Tables → List M) → List M → Type 0
 IsPrefixOfStoredList {S} {M} g store list first = (t : Tables) → HoldsRows g store t → (rest : List M) × (first ++ rest ≡ list t)
 
@@ -57,8 +53,7 @@ pub record WalkPost {S X M V E : Type 0} (g : Ghosts S) (old new : Held S) (of :
   -- At a fault the visitor has taken a prefix of the records. At an error of the visitor it has
   -- taken the records before the one for which it returned the error.
   pub early : HasCleanDisk (state g new) → IfErr result (TableWalkEndsEarly (IsPrefixOfStoredList g old list) of takes stops before after)
-  -- The error is `Memory` or `Store`, or that of the visitor, whether or not the disk assumption
-  -- holds.
+  -- An error of the visitor is one at which it stopped, whether or not the disk assumption holds.
   pub fault : IfErr result (IsWalkError stops after)
   -- `Ok` is returned only if the store was open before the call.
   pub was_open : HasCleanDisk (state g new) → OnOk result (IsTrue (state g old).is_open)
@@ -75,7 +70,7 @@ pub record WalkPost {S X M V E : Type 0} (g : Ghosts S) (old new : Held S) (of :
 abbrev pub MatchesWalkResult : {E : Type 0} → (Fault → E → Type 0) → Result (Unit {0}) (WalkError E) → Result (Unit {0}) E → Type 0
 MatchesWalkResult {E} gives (Ok u) result = result ≡ Ok tt
 MatchesWalkResult {E} gives (Err (Cause e)) result = result ≡ Err e
-MatchesWalkResult {E} gives (Err (Failed fault)) result = (e : E) × (result ≡ Err e) × gives fault e
+MatchesWalkResult {E} gives (Err (Failed fault)) result = (e : E) × (result ≡ Err e) × gives (fault_of_call fault) e
 
 -- The closure `call` was called with the records that `list` selects, in order and one at a time,
 -- until it returned an error or the walk failed. The result is `Ok` after the last record,

@@ -2,17 +2,17 @@
 //! transaction and ends it without a commit (no clause states this). A read fails with `Store` also
 //! if a row is malformed or if the `sqlite` crate runs out of memory. A crash after a read exposes
 //! only states that a crash before it could expose.
+#![tactic(auto, using(brk_store_transactions::proofs::Ending::read_is_over, crate::proofs::KeptIndex::read_keeps_index))]
 
-ghost use Rattle.std.specs.Prelude.{◌≡◌, ◌==◌, IfErr, bytes_eq, filter, map};
+ghost use Rattle.std.specs.Prelude.{◌≡◌, ◌==◌, bytes_eq, filter, map};
 ghost use Rattle.brk_ref.specs.Rows.{abstract_request_row};
-ghost use Rattle.brk_model.specs.Run.{IsCallFault};
 ghost use Rattle.brk_ref.specs.Records.{abstract_broker_row};
 ghost use Rattle.brk_store_transactions.specs.Holds.{ReadPost};
 ghost use Rattle.brk_tables_schema.specs.Desk.{Brokers};
 ghost use Rattle.brk_tables_schema.specs.Statements.{AreMatchingRows};
 
 use crate::Store;
-use brk_money::{Fault, Id};
+use brk_money::{CallFault, Id};
 use brk_ref::{BrokerRow, Name, RequestRow};
 use brk_store_transactions::begin_transaction;
 use sqlite::Alter;
@@ -20,9 +20,8 @@ use std::alloc::Global;
 
 impl<S: Alter> Store<S> {
     /// Returns the brokers with the name, sorted by id, ascending.
-    pub fn brokers_named(&mut self, alloc: Global, name: &Name) -> Result<Vec<BrokerRow>, Fault>
+    pub fn brokers_named(&mut self, alloc: Global, name: &Name) -> Result<Vec<BrokerRow>, CallFault>
         ensures read { ReadPost S.Store self.old self.new result (AreMatchingRows Brokers abstract_broker_row (λ r. bytes_eq r.name name.now)) }
-        ensures fault { IfErr result IsCallFault }
     {
         let mut tx = begin_transaction(&mut self.conn);
         brk_tables_views::brokers_with_name(&mut tx, alloc, name)
@@ -30,18 +29,16 @@ impl<S: Alter> Store<S> {
 
     /// Returns all rows of TRADE_REQUEST, which are of the pending trades, sorted by trade,
     /// ascending.
-    pub fn all_trade_requests(&mut self, alloc: Global) -> Result<Vec<RequestRow>, Fault>
+    pub fn all_trade_requests(&mut self, alloc: Global) -> Result<Vec<RequestRow>, CallFault>
         ensures read { ReadPost S.Store self.old self.new result (λ all t. map abstract_request_row all.items ≡ t.requests) }
-        ensures fault { IfErr result IsCallFault }
     {
         let mut tx = begin_transaction(&mut self.conn);
         brk_tables_views::all_requests(&mut tx, alloc)
     }
 
     /// Returns the ids of the accounts of a broker, ascending.
-    pub fn broker_account_ids(&mut self, alloc: Global, broker: Id) -> Result<Vec<Id>, Fault>
+    pub fn broker_account_ids(&mut self, alloc: Global, broker: Id) -> Result<Vec<Id>, CallFault>
         ensures read { ReadPost S.Store self.old self.new result (λ all t. all.items ≡ map (λ r. r.id) (filter (λ r. r.broker == broker) t.accounts)) }
-        ensures fault { IfErr result IsCallFault }
     {
         let mut tx = begin_transaction(&mut self.conn);
         brk_tables_views::account_ids_of_broker(&mut tx, alloc, broker)

@@ -1,13 +1,11 @@
 //! The index of lots, and pages of lots that are read by it.
 
-ghost use Rattle.std.specs.Prelude.{◌≡◌, ◌==◌, ◌&&◌, Err, IfErr, OnErr, Some, bytes_eq, false, map};
+ghost use Rattle.std.specs.Prelude.{◌≡◌, ◌==◌, ◌&&◌, Some, bytes_eq, false, map};
 ghost use Rattle.std.specs.Option.{option_copied};
 ghost use Rattle.brk_trade_rows.specs.Changes.{tables_after_changes};
 ghost use Rattle.brk_ref.specs.Rows.{abstract_holding_row};
 ghost use Rattle.brk_store_lots.specs.Ages.{IsIndexOf, ages_in, lot_of_age};
-ghost use Rattle.brk_model.specs.Run.{IsCallFault};
 ghost use Rattle.brk_model.specs.Tables.{Tables};
-ghost use Rattle.brk_money.specs.declared.fault.Fault.TheVariants as fault;
 ghost use Rattle.brk_store_transactions.specs.Holds.{ReadPost};
 ghost use Rattle.brk_store.specs.Indexed.{HasRowOfEachAge, IsIndexOfTables};
 ghost use Rattle.brk_store.specs.ReadSequences.{ReadSequencePost};
@@ -15,7 +13,7 @@ ghost use Rattle.brk_tables_schema.specs.Desk.{Holdings};
 ghost use Rattle.brk_tables_schema.specs.Statements.{IsFirstMatch};
 
 use crate::Store;
-use brk_money::{Fault, Id, Stamp};
+use brk_money::{CallFault, Id, Stamp, StoreFailed};
 use brk_ref::{HoldingRow, Symbol};
 use brk_store_lots::ages::age_in_closing_order;
 use brk_store_lots::{LotAge, LotIndex};
@@ -45,44 +43,44 @@ pub(crate) fn index_after_changes(index: Option<LotIndex>, changes: &[Change]) -
     }
 }
 
-fn read_last_stamp<S: Alter>(conn: &mut Connection<S>) -> Result<Option<Stamp>, Fault>
+#[tactic(auto, using(brk_store_transactions::proofs::Ending::read_is_over))]
+fn read_last_stamp<S: Alter>(conn: &mut Connection<S>) -> Result<Option<Stamp>, StoreFailed>
     requires { conn.old.in_transaction ≡ false }
     ensures mode { conn.new.in_transaction ≡ false }
     ensures read { ReadPost S.Store conn.old conn.new result (λ last t. last ≡ t.last) }
-    ensures fault { OnErr result (result ≡ Err fault.Store) }
 {
     let mut tx = begin_transaction(conn);
     brk_tables_schema::last_stamp(&mut tx)
 }
 
+#[tactic(auto, using(brk_store_transactions::proofs::Ending::read_is_over))]
 fn read_lot_by_trade<S: Alter>(
     conn: &mut Connection<S>,
     trade: Id,
-) -> Result<Option<HoldingRow>, Fault>
+) -> Result<Option<HoldingRow>, StoreFailed>
     requires { conn.old.in_transaction ≡ false }
     ensures mode { conn.new.in_transaction ≡ false }
     ensures read { ReadPost S.Store conn.old conn.new result (IsFirstMatch Holdings abstract_holding_row (λ r. r.trade == trade)) }
-    ensures fault { OnErr result (result ≡ Err fault.Store) }
 {
     let mut tx = begin_transaction(conn);
     brk_tables_trading::lot_by_trade(&mut tx, trade)
 }
 
+#[tactic(auto, using(brk_store_transactions::proofs::Ending::read_is_over))]
 fn read_all_lots<S: Alter>(
     conn: &mut Connection<S>,
     alloc: Global,
-) -> Result<Vec<HoldingRow>, Fault>
+) -> Result<Vec<HoldingRow>, CallFault>
     requires { conn.old.in_transaction ≡ false }
     ensures mode { conn.new.in_transaction ≡ false }
     ensures read { ReadPost S.Store conn.old conn.new result (λ all t. map abstract_holding_row all.items ≡ t.holdings) }
-    ensures fault { IfErr result IsCallFault }
 {
     let mut tx = begin_transaction(conn);
     brk_tables_trading::all_lots(&mut tx, alloc)
 }
 
 // Fails with `Memory` also if two lots have one trade.
-fn read_lot_index<S: Alter>(conn: &mut Connection<S>, alloc: Global) -> Result<LotIndex, Fault>
+fn read_lot_index<S: Alter>(conn: &mut Connection<S>, alloc: Global) -> Result<LotIndex, CallFault>
     requires { conn.old.in_transaction ≡ false }
     ensures mode { conn.new.in_transaction ≡ false }
     ensures read { ReadPost S.Store conn.old conn.new result (λ index t. IsIndexOf index t.holdings) }
@@ -90,7 +88,7 @@ fn read_lot_index<S: Alter>(conn: &mut Connection<S>, alloc: Global) -> Result<L
     let rows = read_all_lots(conn, alloc)?;
     match LotIndex::of_rows(alloc, &rows) {
         Ok(index) => Ok(index),
-        Err(_) => Err(Fault::Memory),
+        Err(_) => Err(CallFault::Memory),
     }
 }
 
@@ -100,23 +98,22 @@ fn is_lot_of_position(row: &HoldingRow, account: Id, symbol: &Symbol, stamp: Sta
     row.account == account && row.symbol.as_str() == symbol.as_str() && row.stamp == stamp
 }
 
-// Fails with `Store` also if there is no such row.
+// Fails also if there is no such row.
 fn read_lot_of_age<S: Alter>(
     conn: &mut Connection<S>,
     account: Id,
     symbol: &Symbol,
     age: &LotAge,
-) -> Result<HoldingRow, Fault>
+) -> Result<HoldingRow, StoreFailed>
     requires { conn.old.in_transaction ≡ false }
     ensures mode { conn.new.in_transaction ≡ false }
     ensures read { ReadPost S.Store conn.old conn.new result (λ row t. Some (abstract_holding_row row) ≡ lot_of_age t.holdings account symbol.now age.now) }
-    ensures fault { OnErr result (result ≡ Err fault.Store) }
 {
     let Some(row) = read_lot_by_trade(conn, age.trade)? else {
-        return Err(Fault::Store);
+        return Err(StoreFailed);
     };
     if !is_lot_of_position(&row, account, symbol, age.stamp) {
-        return Err(Fault::Store);
+        return Err(StoreFailed);
     }
     Ok(row)
 }
@@ -129,11 +126,10 @@ fn read_lots_of_ages<S: Alter>(
     lifo: bool,
     skipped: u32,
     ages: &VecDeque<LotAge>,
-) -> Result<Vec<HoldingRow>, Fault>
+) -> Result<Vec<HoldingRow>, CallFault>
     requires { conn.old.in_transaction ≡ false }
     ensures mode { conn.new.in_transaction ≡ false }
     ensures read { ReadSequencePost S.Store conn.old conn.new result (λ page t. HasRowOfEachAge account symbol.now lifo skipped ages.now.items page.items t) }
-    ensures fault { IfErr result IsCallFault }
 {
     let first = skipped as usize;
     let mut page = Vec::new(alloc);
@@ -155,11 +151,10 @@ fn read_page_of_ages<S: Alter>(
     lifo: bool,
     skipped: u32,
     ages: Option<&VecDeque<LotAge>>,
-) -> Result<Vec<HoldingRow>, Fault>
+) -> Result<Vec<HoldingRow>, CallFault>
     requires { conn.old.in_transaction ≡ false }
     ensures mode { conn.new.in_transaction ≡ false }
     ensures read { ReadPost S.Store conn.old conn.new result (λ page t. HasRowOfEachAge account symbol.now lifo skipped (ages_in (option_copied ages.entry)) page.items t) }
-    ensures fault { IfErr result IsCallFault }
 {
     // Called because it fails if the database is not open.
     let _last = read_last_stamp(conn)?;
@@ -170,9 +165,8 @@ fn read_page_of_ages<S: Alter>(
 }
 
 impl<S: Alter> Store<S> {
-    ghost use Rattle.std.specs.Prelude.{◌≡◌, IfErr, map};
+    ghost use Rattle.std.specs.Prelude.{◌≡◌, map};
     ghost use Rattle.brk_ref.specs.Rows.{abstract_holding_row};
-    ghost use Rattle.brk_model.specs.Run.{IsCallFault};
     ghost use Rattle.brk_store_transactions.specs.Holds.{ReadPost};
     ghost use Rattle.brk_store.specs.Pages.{lot_rows_in_closing_order};
     ghost use Rattle.brk_store.specs.ReadSequences.{IsUnchangedByReads};
@@ -201,10 +195,9 @@ impl<S: Alter> Store<S> {
         symbol: &Symbol,
         lifo: bool,
         skipped: u32,
-    ) -> Result<Vec<HoldingRow>, Fault>
+    ) -> Result<Vec<HoldingRow>, CallFault>
         ensures read { ReadPost S.Store self.old self.new result (λ page t. map abstract_holding_row page.items
             ≡ page_after_skipped skipped (lot_rows_in_closing_order lifo account symbol.now t)) }
-        ensures fault { IfErr result IsCallFault }
     {
         if lifo {
             self.page_of_newest_lots(alloc, account, symbol, skipped)
@@ -221,10 +214,9 @@ impl<S: Alter> Store<S> {
         symbol: &Symbol,
         lifo: bool,
         skipped: u32,
-    ) -> Result<Vec<HoldingRow>, Fault>
+    ) -> Result<Vec<HoldingRow>, CallFault>
         ensures read { ReadPost S.Store self.old self.new result (λ page t. map abstract_holding_row page.items
             ≡ page_after_skipped skipped (lot_rows_in_closing_order lifo account symbol.now t)) }
-        ensures fault { IfErr result IsCallFault }
     {
         if self.known {
             if let Some(index) = &self.index {
@@ -251,10 +243,9 @@ impl<S: Alter> Store<S> {
         symbol: &Symbol,
         lifo: bool,
         skipped: u32,
-    ) -> Result<Vec<HoldingRow>, Fault>
+    ) -> Result<Vec<HoldingRow>, CallFault>
         ensures read { ReadPost S.Store self.old self.new result (λ page t. map abstract_holding_row page.items
             ≡ page_after_skipped skipped (lot_rows_in_closing_order lifo account symbol.now t)) }
-        ensures fault { IfErr result IsCallFault }
     {
         self.prepare_index(alloc);
         self.page_of_indexed_lots(alloc, account, symbol, lifo, skipped)

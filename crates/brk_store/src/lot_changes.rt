@@ -2,16 +2,16 @@
 //! it without a commit (no clause states this). A read fails with `Store` also if a row is
 //! malformed or if the `sqlite` crate runs out of memory. A crash after a read exposes only states
 //! that a crash before it could expose.
+#![tactic(auto, using(brk_store_transactions::proofs::Ending::read_is_over, crate::proofs::KeptIndex::read_keeps_index))]
 
-ghost use Rattle.std.specs.Prelude.{◌==◌, IfErr};
+ghost use Rattle.std.specs.Prelude.{◌==◌};
 ghost use Rattle.brk_ref.specs.Rows.{abstract_lot_change_row};
-ghost use Rattle.brk_model.specs.Run.{IsCallFault};
 ghost use Rattle.brk_store_transactions.specs.Holds.{ReadPost};
 ghost use Rattle.brk_tables_schema.specs.Desk.{HoldingHistory};
 ghost use Rattle.brk_tables_schema.specs.Statements.{AreMatchingRows};
 
 use crate::Store;
-use brk_money::{Fault, Id};
+use brk_money::{CallFault, Id};
 use brk_ref::LotChange;
 use brk_store_transactions::begin_transaction;
 use sqlite::Alter;
@@ -23,9 +23,8 @@ impl<S: Alter> Store<S> {
         &mut self,
         alloc: Global,
         trade: Id,
-    ) -> Result<Vec<LotChange>, Fault>
+    ) -> Result<Vec<LotChange>, CallFault>
         ensures read { ReadPost S.Store self.old self.new result (AreMatchingRows HoldingHistory abstract_lot_change_row (λ r. r.trade == trade)) }
-        ensures fault { IfErr result IsCallFault }
     {
         let mut tx = begin_transaction(&mut self.conn);
         brk_tables_views::lot_changes_by_trade(&mut tx, alloc, trade)
@@ -33,9 +32,12 @@ impl<S: Alter> Store<S> {
 
     /// Returns the changes of the lot that the trade `lot` opened, sorted by the changing trade,
     /// ascending.
-    pub fn lot_changes_of_lot(&mut self, alloc: Global, lot: Id) -> Result<Vec<LotChange>, Fault>
+    pub fn lot_changes_of_lot(
+        &mut self,
+        alloc: Global,
+        lot: Id,
+    ) -> Result<Vec<LotChange>, CallFault>
         ensures read { ReadPost S.Store self.old self.new result (AreMatchingRows HoldingHistory abstract_lot_change_row (λ r. r.lot == lot)) }
-        ensures fault { IfErr result IsCallFault }
     {
         let mut tx = begin_transaction(&mut self.conn);
         brk_tables_views::lot_changes_of_lot(&mut tx, alloc, lot)

@@ -10,7 +10,7 @@ ghost use Rattle.brk_store_transactions.specs.Holds.{ReadPost};
 ghost use Rattle.brk_store.specs.Numbers.{AreBrokerTotals};
 
 use crate::Store;
-use brk_money::{Cents, Fault, Id};
+use brk_money::{Cents, Fault, Id, StoreFailed};
 use brk_ref::BrokerRow;
 use brk_trade_rows::{Amount, BrokerTotals, TradeCount};
 use sqlite::Alter;
@@ -37,28 +37,42 @@ fn totals_in_broker_row(row: &BrokerRow) -> Option<BrokerTotals>
 
 impl<S: Alter> Store<S> {
     /// Returns the totals of a broker: completed trades (B_NUM_TRADES), and commissions in cents
-    /// (B_COMM_TOTAL). Fails with `Store` only, also if one is out of the range of its type.
-    pub fn broker_numbers(&mut self, broker: Id) -> Result<Option<BrokerTotals>, Fault>
+    /// (B_COMM_TOTAL). Fails also if one is out of the range of its type.
+    pub fn read_broker_totals(&mut self, broker: Id) -> Result<Option<BrokerTotals>, StoreFailed>
         ensures read { ReadPost S.Store self.old self.new result (λ numbers t. AreBrokerTotals numbers (find (λ r. r.id == broker) t.brokers)) }
-        ensures fault { OnErr result (result ≡ Err fault.Store) }
     {
         let Some(row) = self.broker(broker)? else {
             return Ok(None);
         };
         match totals_in_broker_row(&row) {
             Some(numbers) => Ok(Some(numbers)),
-            None => Err(Fault::Store),
+            None => Err(StoreFailed),
         }
     }
 
-    /// Returns the balance of an account, in cents (CA_BAL). Fails with `Store` only.
-    pub fn balance_of(&mut self, account: Id) -> Result<Option<Cents>, Fault>
-        ensures read { ReadPost S.Store self.old self.new result (λ balance t. balance ≡ option_map (λ r. r.balance) (find (λ r. r.id == account) t.accounts)) }
+    /// `read_broker_totals` for a caller that returns a `Fault`.
+    pub fn broker_numbers(&mut self, broker: Id) -> Result<Option<BrokerTotals>, Fault>
+        ensures read { ReadPost S.Store self.old self.new result (λ numbers t. AreBrokerTotals numbers (find (λ r. r.id == broker) t.brokers)) }
         ensures fault { OnErr result (result ≡ Err fault.Store) }
+    {
+        Ok(self.read_broker_totals(broker)?)
+    }
+
+    /// Returns the balance of an account, in cents (CA_BAL).
+    pub fn read_balance(&mut self, account: Id) -> Result<Option<Cents>, StoreFailed>
+        ensures read { ReadPost S.Store self.old self.new result (λ balance t. balance ≡ option_map (λ r. r.balance) (find (λ r. r.id == account) t.accounts)) }
     {
         match self.account(account)? {
             Some(row) => Ok(Some(row.balance)),
             None => Ok(None),
         }
+    }
+
+    /// `read_balance` for a caller that returns a `Fault`.
+    pub fn balance_of(&mut self, account: Id) -> Result<Option<Cents>, Fault>
+        ensures read { ReadPost S.Store self.old self.new result (λ balance t. balance ≡ option_map (λ r. r.balance) (find (λ r. r.id == account) t.accounts)) }
+        ensures fault { OnErr result (result ≡ Err fault.Store) }
+    {
+        Ok(self.read_balance(account)?)
     }
 }

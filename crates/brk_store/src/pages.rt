@@ -1,8 +1,7 @@
 //! The lots of a position, which a source reads from the store 16 rows at a time (a page of them).
 
-ghost use Rattle.std.specs.Prelude.{◌≡◌, ◌≢◌, ◌≤◌, ◌+◌, IfErr, IfOk, IsTrue, length, map, pos};
+ghost use Rattle.std.specs.Prelude.{◌≡◌, ◌≢◌, ◌≤◌, ◌+◌, IfOk, IsTrue, length, map, pos};
 ghost use Rattle.std.specs.List.{All};
-ghost use Rattle.brk_model.specs.Run.{IsCallFault};
 ghost use Rattle.brk_ref.specs.Rows.{abstract_holding_row};
 ghost use Rattle.brk_tables_trading.specs.Pages.{page_after_skipped, page_size};
 ghost use Rattle.brk_trade_books.specs.OrderReads.{lot_of_typed_row};
@@ -11,7 +10,7 @@ ghost use Rattle.brk_store.specs.Pages.{lot_rows_in_closing_order};
 
 use crate::Store;
 use brk_lots::{Lot, LotSource};
-use brk_money::{Fault, Id};
+use brk_money::{CallFault, Fault, Id};
 use brk_ref::{HoldingRow, Symbol};
 use sqlite::Alter;
 use std::alloc::Global;
@@ -77,7 +76,7 @@ fn is_valid_lot_page(rows: &[HoldingRow]) -> bool
     rows.len() <= PAGE_SIZE && rows.iter().all(|row| row.qty != 0)
 }
 
-// Fails with `Store` also if the page has more than 16 rows or a lot without shares.
+// Fails also if the page has more than 16 rows or a lot without shares.
 fn read_valid_lot_page<S: Alter>(
     store: &mut Store<S>,
     alloc: Global,
@@ -85,18 +84,17 @@ fn read_valid_lot_page<S: Alter>(
     symbol: &Symbol,
     lifo: bool,
     skipped: u32,
-) -> Result<Vec<HoldingRow>, Fault>
+) -> Result<Vec<HoldingRow>, CallFault>
     ensures read { ReadPost S.Store store.old store.new result (λ all t. map abstract_holding_row all.items
         ≡ page_after_skipped skipped (lot_rows_in_closing_order lifo account symbol.now t)) }
     ensures few { IfOk result (λ all. length all.items ≤ page_size) }
     ensures some_shares { IfOk result (λ all. All (λ r. r.qty ≢ pos 0) all.items) }
-    ensures fault { IfErr result IsCallFault }
 {
     let page = store.page_of_lots(alloc, account, symbol, lifo, skipped)?;
     if is_valid_lot_page(&page) {
         Ok(page)
     } else {
-        Err(Fault::Store)
+        Err(CallFault::Store)
     }
 }
 
@@ -167,7 +165,6 @@ impl<S: Alter> Pages<'_, S, Page> {
     ghost use Rattle.sqlite.specs.State.{HasCleanDisk};
     ghost use Rattle.brk_lots.specs.declared.lot.Lot.{Lot as TheLot};
     ghost use Rattle.brk_ref.specs.Rows.{abstract_holding_row};
-    ghost use Rattle.brk_model.specs.Run.{IsCallFault};
     ghost use Rattle.brk_model.specs.Tables.{Tables};
     ghost use Rattle.brk_store_transactions.specs.Holds.{HoldsRows};
     ghost use Rattle.brk_store.specs.ReadSequences.{IsUnchangedByReads};
@@ -185,7 +182,7 @@ impl<S: Alter> Pages<'_, S, Page> {
         u64::from(self.read)
     }
 
-    fn read_next_page(&mut self) -> Result<Vec<HoldingRow>, Fault>
+    fn read_next_page(&mut self) -> Result<Vec<HoldingRow>, CallFault>
         // The same store, unchanged if still open; of the source only `store` and `read` change.
         ensures same_reference { self.new.store.ghost_name ≡ self.old.store.ghost_name }
         ensures same { self.new ≡ record self.old { store = self.new.store; read = self.new.read } }
@@ -200,11 +197,9 @@ impl<S: Alter> Pages<'_, S, Page> {
         ensures counted { IfOk result (λ page. self.new.read ≡ self.old.read + length page.items) }
         ensures count_at_error { OnErr result (self.new.read ≡ self.old.read) }
 
-        // Also if the disk assumption fails: at most 16 rows, none without shares; no fault but
-        // `Memory` or `Store`.
+        // Also if the disk assumption fails: at most 16 rows, none without shares.
         ensures few { IfOk result (λ page. length page.items ≤ page_size) }
         ensures some_shares { IfOk result (λ page. All (λ r. r.qty ≢ pos 0) page.items) }
-        ensures fault { IfErr result IsCallFault }
     {
         let page = read_valid_lot_page(
             self.store,
@@ -215,13 +210,13 @@ impl<S: Alter> Pages<'_, S, Page> {
             self.read,
         )?;
         let Some(read) = self.read.checked_add(page.len() as u32) else {
-            return Err(Fault::Store);
+            return Err(CallFault::Store);
         };
         self.read = read;
         Ok(page)
     }
 
-    fn turn_page(&mut self) -> Result<Option<Lot>, Fault>
+    fn turn_page(&mut self) -> Result<Option<Lot>, CallFault>
         // All lots of the current page were returned.
         requires { length self.old.page.rows.items ≤ self.old.page.returned }
 
@@ -241,9 +236,8 @@ impl<S: Alter> Pages<'_, S, Page> {
         // The number of lots returned (`asked`) grows by at most 1.
         ensures asked { self.new.read - (length self.new.page.rows.items - self.new.page.returned) ≤ self.old.read + 1 }
 
-        // The count of faults is unchanged; the only faults are `Memory` and `Store`.
+        // The count of faults is unchanged.
         ensures fault_count { self.new.faults ≡ self.old.faults }
-        ensures fault { IfErr result IsCallFault }
     {
         if self.ended {
             return Ok(None);
@@ -293,13 +287,13 @@ impl<S: Alter> LotSource for Pages<'_, S, Page> {
                 self.page.returned += 1;
                 Ok(Some(lot))
             }
-            None => {
-                let given = self.turn_page();
-                if given.is_err() {
+            None => match self.turn_page() {
+                Ok(given) => Ok(given),
+                Err(fault) => {
                     self.faults = self.faults.saturating_add(1);
+                    Err(Fault::from(fault))
                 }
-                given
-            }
+            },
         }
     }
 

@@ -112,7 +112,7 @@ impl<S: Alter> Store<S> {
                 self.index = index_after_changes(self.index.take(), changes);
                 Ok(())
             }
-            Err(fault) => Err(fault),
+            Err(_) => Err(Fault::Store),
         }
     }
 

@@ -3,10 +3,9 @@
 //! A read fails with `Store` also if a row is malformed or if the `sqlite` crate runs out of
 //! memory, and a read of a single row also if its decoding does. A crash after a read exposes only
 //! states that a crash before it could expose.
+#![tactic(auto, using(brk_store_transactions::proofs::Ending::read_is_over, crate::proofs::KeptIndex::read_keeps_index))]
 
-ghost use Rattle.std.specs.Prelude.{◌≡◌, ◌==◌, ◌&&◌, Err, IfErr, OnErr, bytes_eq};
-ghost use Rattle.brk_money.specs.declared.fault.Fault.TheVariants as fault;
-ghost use Rattle.brk_model.specs.Run.{IsCallFault};
+ghost use Rattle.std.specs.Prelude.{◌==◌, ◌&&◌, bytes_eq};
 ghost use Rattle.brk_money.specs.Kinds.{is_same_trade_type};
 ghost use Rattle.brk_ref.specs.Records.{abstract_band, abstract_charge, abstract_customer_tax, abstract_permission, abstract_security_row, abstract_tax_rate};
 ghost use Rattle.brk_store_transactions.specs.Holds.{ReadPost};
@@ -14,7 +13,7 @@ ghost use Rattle.brk_tables_schema.specs.Desk.{Bands, Charges, CustomerTaxes, Pe
 ghost use Rattle.brk_tables_schema.specs.Statements.{IsFirstMatch, AreMatchingRows};
 
 use crate::Store;
-use brk_money::{Fault, Id, TradeType};
+use brk_money::{CallFault, Id, StoreFailed, TradeType};
 use brk_ref::{
     Band, Charge, CustomerTax, Exchange, Permission, Security, Symbol, Tax, TaxId, Tier,
 };
@@ -24,29 +23,30 @@ use std::alloc::Global;
 
 impl<S: Alter> Store<S> {
     /// Returns the permission of a person, by tax number (AP_TAX_ID), to order for an account.
-    pub fn permission(&mut self, account: Id, tax_id: &TaxId) -> Result<Option<Permission>, Fault>
+    pub fn permission(
+        &mut self,
+        account: Id,
+        tax_id: &TaxId,
+    ) -> Result<Option<Permission>, StoreFailed>
         ensures read { ReadPost S.Store self.old self.new result (IsFirstMatch Permissions abstract_permission (λ r. (r.account == account)
             && bytes_eq r.tax_id tax_id.now)) }
-        ensures fault { OnErr result (result ≡ Err fault.Store) }
     {
         let mut tx = begin_transaction(&mut self.conn);
         brk_tables_reference::permission_for(&mut tx, account, tax_id)
     }
 
     /// Returns the security with the symbol.
-    pub fn security(&mut self, symbol: &Symbol) -> Result<Option<Security>, Fault>
+    pub fn security(&mut self, symbol: &Symbol) -> Result<Option<Security>, StoreFailed>
         ensures read { ReadPost S.Store self.old self.new result (IsFirstMatch Securities abstract_security_row (λ r. bytes_eq r.symbol symbol.now)) }
-        ensures fault { OnErr result (result ≡ Err fault.Store) }
     {
         let mut tx = begin_transaction(&mut self.conn);
         brk_tables_reference::security_by_symbol(&mut tx, symbol)
     }
 
     /// Returns the charge of a trade type and a customer tier.
-    pub fn charge(&mut self, kind: TradeType, tier: Tier) -> Result<Option<Charge>, Fault>
+    pub fn charge(&mut self, kind: TradeType, tier: Tier) -> Result<Option<Charge>, StoreFailed>
         ensures read { ReadPost S.Store self.old self.new result (IsFirstMatch Charges abstract_charge (λ r. is_same_trade_type r.kind kind
             && (r.tier == tier))) }
-        ensures fault { OnErr result (result ≡ Err fault.Store) }
     {
         let mut tx = begin_transaction(&mut self.conn);
         brk_tables_reference::charge_for(&mut tx, kind, tier)
@@ -60,29 +60,30 @@ impl<S: Alter> Store<S> {
         tier: Tier,
         kind: TradeType,
         exchange: &Exchange,
-    ) -> Result<Vec<Band>, Fault>
+    ) -> Result<Vec<Band>, CallFault>
         ensures read { ReadPost S.Store self.old self.new result (AreMatchingRows Bands abstract_band (λ r. (r.tier == tier) && is_same_trade_type r.kind kind
             && bytes_eq r.exchange exchange.now)) }
-        ensures fault { IfErr result IsCallFault }
     {
         let mut tx = begin_transaction(&mut self.conn);
         brk_tables_reference::bands_for(&mut tx, alloc, tier, kind, exchange)
     }
 
     /// Returns the tax with the id, with its rate.
-    pub fn tax_with_id(&mut self, id: Id) -> Result<Option<Tax>, Fault>
+    pub fn tax_with_id(&mut self, id: Id) -> Result<Option<Tax>, StoreFailed>
         ensures read { ReadPost S.Store self.old self.new result (IsFirstMatch TaxRates abstract_tax_rate (λ r. r.id == id)) }
-        ensures fault { OnErr result (result ≡ Err fault.Store) }
     {
         let mut tx = begin_transaction(&mut self.conn);
         brk_tables_reference::tax_rate_by_id(&mut tx, id)
     }
 
     /// Returns the row of CUSTOMER_TAXRATE, if the customer pays the tax.
-    pub fn customer_tax(&mut self, customer: Id, tax: Id) -> Result<Option<CustomerTax>, Fault>
+    pub fn customer_tax(
+        &mut self,
+        customer: Id,
+        tax: Id,
+    ) -> Result<Option<CustomerTax>, StoreFailed>
         ensures read { ReadPost S.Store self.old self.new result (IsFirstMatch CustomerTaxes abstract_customer_tax (λ r. (r.customer == customer)
             && (r.tax == tax))) }
-        ensures fault { OnErr result (result ≡ Err fault.Store) }
     {
         let mut tx = begin_transaction(&mut self.conn);
         brk_tables_reference::paid_tax(&mut tx, customer, tax)
@@ -94,9 +95,8 @@ impl<S: Alter> Store<S> {
         &mut self,
         alloc: Global,
         customer: Id,
-    ) -> Result<Vec<CustomerTax>, Fault>
+    ) -> Result<Vec<CustomerTax>, CallFault>
         ensures read { ReadPost S.Store self.old self.new result (AreMatchingRows CustomerTaxes abstract_customer_tax (λ r. r.customer == customer)) }
-        ensures fault { IfErr result IsCallFault }
     {
         let mut tx = begin_transaction(&mut self.conn);
         brk_tables_reference::taxes_of_customer(&mut tx, alloc, customer)

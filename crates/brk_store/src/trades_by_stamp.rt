@@ -2,17 +2,16 @@
 //! and ends it without a commit (no clause states this). A read fails with `Store` also if a row is
 //! malformed or if the `sqlite` crate runs out of memory, and a read of a single row also if its
 //! decoding does. A crash after a read exposes only states that a crash before it could expose.
+#![tactic(auto, using(brk_store_transactions::proofs::Ending::read_is_over, crate::proofs::KeptIndex::read_keeps_index))]
 
-ghost use Rattle.std.specs.Prelude.{◌≡◌, ◌==◌, ◌&&◌, Err, IfErr, OnErr, bytes_eq, filter, map, nat_le, option_map, option_to_list, take};
-ghost use Rattle.brk_money.specs.declared.fault.Fault.TheVariants as fault;
+ghost use Rattle.std.specs.Prelude.{◌≡◌, ◌==◌, ◌&&◌, bytes_eq, filter, map, nat_le, option_map, option_to_list, take};
 ghost use Rattle.brk_ref.specs.Rows.{abstract_trade_row};
 ghost use Rattle.brk_model.specs.Joins.{trade_rows_oldest_first, trade_rows_of_account};
 ghost use Rattle.brk_model.specs.LookupView.{row_stamp_is_between};
-ghost use Rattle.brk_model.specs.Run.{IsCallFault};
 ghost use Rattle.brk_store_transactions.specs.Holds.{ReadPost};
 
 use crate::Store;
-use brk_money::{Fault, Id, Stamp};
+use brk_money::{CallFault, Id, Stamp, StoreFailed};
 use brk_ref::{Span, Symbol, TradeRow};
 use brk_store_transactions::begin_transaction;
 use sqlite::Alter;
@@ -26,10 +25,9 @@ impl<S: Alter> Store<S> {
         alloc: Global,
         account: Id,
         span: Span,
-    ) -> Result<Vec<TradeRow>, Fault>
+    ) -> Result<Vec<TradeRow>, CallFault>
         ensures read { ReadPost S.Store self.old self.new result (λ all t. map abstract_trade_row all.items
             ≡ take 20 (trade_rows_oldest_first (filter (λ r. (r.account == account) && row_stamp_is_between span.first span.last r) t.trades))) }
-        ensures fault { IfErr result IsCallFault }
     {
         let mut tx = begin_transaction(&mut self.conn);
         brk_tables_views::twenty_trades_of_account(&mut tx, alloc, account, span.first, span.last)
@@ -41,10 +39,9 @@ impl<S: Alter> Store<S> {
         alloc: Global,
         symbol: &Symbol,
         span: Span,
-    ) -> Result<Vec<TradeRow>, Fault>
+    ) -> Result<Vec<TradeRow>, CallFault>
         ensures read { ReadPost S.Store self.old self.new result (λ all t. map abstract_trade_row all.items
             ≡ take 20 (trade_rows_oldest_first (filter (λ r. bytes_eq r.symbol symbol.now && row_stamp_is_between span.first span.last r) t.trades))) }
-        ensures fault { IfErr result IsCallFault }
     {
         let mut tx = begin_transaction(&mut self.conn);
         brk_tables_views::twenty_trades_of_symbol(&mut tx, alloc, symbol, span.first, span.last)
@@ -56,10 +53,9 @@ impl<S: Alter> Store<S> {
         &mut self,
         account: Id,
         first: Stamp,
-    ) -> Result<Option<TradeRow>, Fault>
+    ) -> Result<Option<TradeRow>, StoreFailed>
         ensures read { ReadPost S.Store self.old self.new result (λ o t. option_to_list (option_map abstract_trade_row o)
             ≡ take 1 (trade_rows_oldest_first (filter (λ r. nat_le first r.stamp) (trade_rows_of_account t account)))) }
-        ensures fault { OnErr result (result ≡ Err fault.Store) }
     {
         let mut tx = begin_transaction(&mut self.conn);
         brk_tables_views::first_trade_since(&mut tx, account, first)

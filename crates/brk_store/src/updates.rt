@@ -2,10 +2,9 @@
 //! (no clause states this). A read fails with `Store` also if a row is malformed or if the `sqlite`
 //! crate runs out of memory, and a read of a single row also if its decoding does. A crash after a
 //! read exposes only states that a crash before it could expose.
+#![tactic(auto, using(brk_store_transactions::proofs::Ending::read_is_over, crate::proofs::KeptIndex::read_keeps_index))]
 
-ghost use Rattle.std.specs.Prelude.{◌≡◌, ◌==◌, Err, IfErr, OnErr, map};
-ghost use Rattle.brk_money.specs.declared.fault.Fault.TheVariants as fault;
-ghost use Rattle.brk_model.specs.Run.{IsCallFault};
+ghost use Rattle.std.specs.Prelude.{◌≡◌, ◌==◌, map};
 ghost use Rattle.brk_trade_rows.specs.Chosen as chosen;
 ghost use Rattle.brk_ref.specs.Rows.{abstract_settlement_row, abstract_trade_row};
 ghost use Rattle.brk_store_transactions.specs.Holds.{ReadPost};
@@ -13,7 +12,7 @@ ghost use Rattle.brk_tables_schema.specs.Desk.{Settlements};
 ghost use Rattle.brk_tables_schema.specs.Statements.{IsFirstMatch};
 
 use crate::Store;
-use brk_money::{Fault, Id};
+use brk_money::{CallFault, Id, StoreFailed};
 use brk_ref::{SettlementRow, Span, Symbol, TradeRow};
 use brk_store_transactions::begin_transaction;
 use sqlite::Alter;
@@ -27,10 +26,9 @@ impl<S: Alter> Store<S> {
         alloc: Global,
         account: Id,
         span: Span,
-    ) -> Result<Vec<TradeRow>, Fault>
+    ) -> Result<Vec<TradeRow>, CallFault>
         ensures read { ReadPost S.Store self.old self.new result (λ all t. map abstract_trade_row all.items
             ≡ chosen.first_twenty_completed_trade_rows_of_account account span.first span.last t) }
-        ensures fault { IfErr result IsCallFault }
     {
         let mut tx = begin_transaction(&mut self.conn);
         brk_tables_trading::completed_trades_of_account(
@@ -45,10 +43,9 @@ impl<S: Alter> Store<S> {
         alloc: Global,
         symbol: &Symbol,
         span: Span,
-    ) -> Result<Vec<TradeRow>, Fault>
+    ) -> Result<Vec<TradeRow>, CallFault>
         ensures read { ReadPost S.Store self.old self.new result (λ all t. map abstract_trade_row all.items
             ≡ chosen.first_twenty_completed_cash_trade_rows_of_symbol symbol.now span.first span.last t) }
-        ensures fault { IfErr result IsCallFault }
     {
         let mut tx = begin_transaction(&mut self.conn);
         brk_tables_trading::completed_cash_trades_of_symbol(
@@ -57,9 +54,8 @@ impl<S: Alter> Store<S> {
     }
 
     /// Returns the settlement of a trade.
-    pub fn settlement(&mut self, trade: Id) -> Result<Option<SettlementRow>, Fault>
+    pub fn settlement(&mut self, trade: Id) -> Result<Option<SettlementRow>, StoreFailed>
         ensures read { ReadPost S.Store self.old self.new result (IsFirstMatch Settlements abstract_settlement_row (λ r. r.trade == trade)) }
-        ensures fault { OnErr result (result ≡ Err fault.Store) }
     {
         let mut tx = begin_transaction(&mut self.conn);
         brk_tables_trading::settlement_by_trade(&mut tx, trade)

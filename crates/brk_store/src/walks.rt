@@ -93,7 +93,7 @@ impl<S: Alter> Store<S> {
         let mut calls = ClosureVisitor { call };
         match self.visit_cash_rows::<E, ClosureVisitor<F>>(account, from, to, &mut calls) {
             Ok(()) => Ok(()),
-            Err(WalkError::Failed(fault)) => Err(E::from(fault)),
+            Err(WalkError::Failed(fault)) => Err(E::from(Fault::from(fault))),
             Err(WalkError::Cause(cause)) => Err(cause),
         }
     }
@@ -114,7 +114,7 @@ impl<S: Alter> Store<S> {
         let mut calls = LotClosureVisitor { call };
         match self.visit_lots::<E, LotClosureVisitor<F>>(account, &mut calls) {
             Ok(()) => Ok(()),
-            Err(WalkError::Failed(fault)) => Err(E::from(fault)),
+            Err(WalkError::Failed(fault)) => Err(E::from(Fault::from(fault))),
             Err(WalkError::Cause(cause)) => Err(cause),
         }
     }

@@ -13,9 +13,14 @@ use Rattle.brk_model.specs.Tables.{HoldingRow}
 use Rattle.brk_ref.specs.Rows.{lot_age_key, lots_oldest_first}
 use Rattle.brk_store_lots.specs.declared.age.LotAge.{LotAge}
 use Rattle.brk_store_lots.specs.declared.index.LotIndex.{LotIndex}
-use Rattle.brk_store_lots.specs.Ages.{Has, IsIndexOf, IsRising, RisesByTrade, age_of_row, in_closing_order, is_older, lot_of_age, lots_at, value_if}
+use Rattle.brk_store_lots.specs.Ages.{Has, IsIndexOf, IsRising, age_of_row, in_closing_order, is_older, lot_of_age, lots_at, value_if}
 use Rattle.brk_store_lots.proofs.Rising.{never_older, older_then}
 use Rattle.brk_store_lots.proofs.Elements.{has_filtered, has_inserted, has_kept, inserted_has, true_is_false}
+
+-- The ids of the trades of the rows ascend.
+abbrev pub RisesByTrade : List HoldingRow → Type 0
+RisesByTrade [] = Unit {0}
+RisesByTrade (x ∷ xs) = AllByRecursion (λ y. nat_lt x.trade y.trade ≡ true) xs × RisesByTrade xs
 
 -- ---- lists that a relation sorts
 

@@ -1,5 +1,5 @@
 -- The ages of lots, and what an index of lots has.
-use Rattle.std.specs.Prelude.{◌≡◌, ◌⊎◌, ◌==◌, ◌&&◌, ℕ, Bool, true, false, List, [], ◌∷◌, Option, Some, None, bytes_eq, find, nat_eq, reverse, if◌then◌else◌, ◌≤◌, length, drop, take, nat_lt}
+use Rattle.std.specs.Prelude.{◌≡◌, ◌⊎◌, ◌==◌, ◌&&◌, ℕ, Bool, true, false, List, [], ◌∷◌, Option, Some, None, bytes_eq, find, nat_eq, reverse, if◌then◌else◌, ◌≤◌, length, drop, take}
 use Rattle.std.specs.declared.alloc.Global.{Global}
 use Rattle.std.specs.HashMap.{HashMap, get, get_by_text, hash_map_len}
 use Rattle.std.specs.declared.collections.VecDeque.{VecDeque}
@@ -103,8 +103,3 @@ value_if test (Some x) = if test x then Some x else None
 abbrev pub lot_of_age : List HoldingRow → ℕ → Text → LotAge → Option HoldingRow
 lot_of_age rows account symbol a =
     value_if (λ r. (r.account == account) && (bytes_eq r.symbol symbol && (r.stamp == a.stamp))) (find (λ r. r.trade == a.trade) rows)
-
--- The ids of the trades of the rows ascend.
-abbrev pub RisesByTrade : List HoldingRow → Type 0
-RisesByTrade [] = Unit {0}
-RisesByTrade (x ∷ xs) = AllByRecursion (λ y. nat_lt x.trade y.trade ≡ true) xs × RisesByTrade xs

@@ -9,23 +9,19 @@ use Rattle.brk_ref.specs.declared.customer.Customer.{Customer}
 use Rattle.brk_ref.specs.declared.security.Security.{Security}
 use Rattle.brk_trade_rows.specs.declared.broker_totals.BrokerTotals.{BrokerTotals}
 
--- The customer with the id `id` exists in the tables `t`, and its first row, in the order of the
--- table, equals `customer`.
+-- The first row of the customer with the id `id` in the tables `t` is `customer`.
 abbrev pub IsCustomerWithId : Tables → ℕ → Customer → Type 0
 IsCustomerWithId t id customer = find (λ r. r.id == id) t.customers ≡ Some (abstract_customer customer)
 
--- The account with the id `id` exists in the tables `t`, and its first row, in the order of the
--- table, equals `account`.
+-- The first row of the account with the id `id` in the tables `t` is `account`.
 abbrev pub IsAccountWithId : Tables → ℕ → ref.AccountRow → Type 0
 IsAccountWithId t id account = account_row_with_id t id ≡ Some (abstract_account_row account)
 
--- The security with the symbol `symbol` exists in the tables `t`, and its first row, in the order
--- of the table, equals `security`.
+-- The first row of the security with the symbol `symbol` in the tables `t` is `security`.
 abbrev pub IsSecurityWithSymbol : Tables → Text → Security → Type 0
 IsSecurityWithSymbol t symbol security = security_row_with_symbol t symbol ≡ Some (abstract_security_row security)
 
--- The totals `numbers`, a number of completed trades and a sum of commissions in cents, equal the
--- totals in the first row, in the order of the table, of the broker with the id `id` in the tables
--- `t`. Vacuous if this broker does not exist.
+-- The totals `numbers`, a number of completed trades and a sum of commissions in cents, are those in the
+-- first row of the broker with the id `id` in the tables `t`. Vacuous if this broker does not exist.
 abbrev pub AreTotalsOfBroker : Tables → ℕ → BrokerTotals → Type 0
 AreTotalsOfBroker t id numbers = IfSome (find (λ r. r.id == id) t.brokers) (λ b. (pos numbers.trades ≡ b.trades) × (numbers.commissions ≡ b.commissions))

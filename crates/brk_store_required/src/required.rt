@@ -2,95 +2,96 @@
 //! if its row does not exist. A crash after a read exposes only states that a crash before it could
 //! expose.
 
-ghost use Rattle.std.specs.Prelude.{◌≡◌, ◌==◌, IfErr, Some, find};
+ghost use Rattle.std.specs.Prelude.{◌≡◌, ◌==◌, Some, find};
 ghost use Rattle.brk_ref.specs.Rows.{abstract_settlement_row, abstract_trade_row};
 ghost use Rattle.brk_model.specs.Joins.{trade_row_with_id};
-ghost use Rattle.brk_model.specs.Run.{IsCallFault};
 ghost use Rattle.brk_ref.specs.Records.{abstract_tax_rate};
 ghost use Rattle.brk_store_required.specs.Required.{AreTotalsOfBroker, IsAccountWithId, IsCustomerWithId, IsSecurityWithSymbol};
 ghost use Rattle.brk_store_transactions.specs.Holds.{ReadPost};
 
-use brk_money::{Fault, Id};
+use brk_money::{CallFault, Id};
 use brk_ref::{AccountRow, Customer, Security, SettlementRow, Symbol, Tax, TradeRow};
 use brk_store::Store;
 use brk_trade_rows::BrokerTotals;
 use sqlite::Alter;
 
 /// Returns the trade with the id.
-pub fn require_trade<S: Alter>(store: &mut Store<S>, id: Id) -> Result<TradeRow, Fault>
+pub fn require_trade<S: Alter>(store: &mut Store<S>, id: Id) -> Result<TradeRow, CallFault>
     ensures read { ReadPost S.Store store.old store.new result (λ trade t. trade_row_with_id t id ≡ Some (abstract_trade_row trade)) }
-    ensures fault { IfErr result IsCallFault }
 {
     match store.trade(id)? {
         Some(trade) => Ok(trade),
-        None => Err(Fault::Store),
+        None => Err(CallFault::Store),
     }
 }
 
 /// Returns the account with the id.
-pub fn require_account<S: Alter>(store: &mut Store<S>, id: Id) -> Result<AccountRow, Fault>
+pub fn require_account<S: Alter>(store: &mut Store<S>, id: Id) -> Result<AccountRow, CallFault>
     ensures read { ReadPost S.Store store.old store.new result (λ account t. IsAccountWithId t id account) }
-    ensures fault { IfErr result IsCallFault }
 {
     match store.account(id)? {
         Some(account) => Ok(account),
-        None => Err(Fault::Store),
+        None => Err(CallFault::Store),
     }
 }
 
 /// Returns the customer with the id.
-pub fn require_customer<S: Alter>(store: &mut Store<S>, id: Id) -> Result<Customer, Fault>
+pub fn require_customer<S: Alter>(store: &mut Store<S>, id: Id) -> Result<Customer, CallFault>
     ensures read { ReadPost S.Store store.old store.new result (λ customer t. IsCustomerWithId t id customer) }
-    ensures fault { IfErr result IsCallFault }
 {
     match store.customer(id)? {
         Some(customer) => Ok(customer),
-        None => Err(Fault::Store),
+        None => Err(CallFault::Store),
     }
 }
 
 /// Returns the security with the symbol.
-pub fn require_security<S: Alter>(store: &mut Store<S>, symbol: &Symbol) -> Result<Security, Fault>
+pub fn require_security<S: Alter>(
+    store: &mut Store<S>,
+    symbol: &Symbol,
+) -> Result<Security, CallFault>
     ensures read { ReadPost S.Store store.old store.new result (λ security t. IsSecurityWithSymbol t symbol.now security) }
-    ensures fault { IfErr result IsCallFault }
 {
     match store.security(symbol)? {
         Some(security) => Ok(security),
-        None => Err(Fault::Store),
+        None => Err(CallFault::Store),
     }
 }
 
 /// Returns the tax with the id, with its rate.
-pub fn require_tax<S: Alter>(store: &mut Store<S>, id: Id) -> Result<Tax, Fault>
+pub fn require_tax<S: Alter>(store: &mut Store<S>, id: Id) -> Result<Tax, CallFault>
     ensures read { ReadPost S.Store store.old store.new result (λ tax t. find (λ r. r.id == id) t.tax_rates ≡ Some (abstract_tax_rate tax)) }
-    ensures fault { IfErr result IsCallFault }
 {
     match store.tax_with_id(id)? {
         Some(tax) => Ok(tax),
-        None => Err(Fault::Store),
+        None => Err(CallFault::Store),
     }
 }
 
 /// Returns the settlement of the trade.
-pub fn require_settlement<S: Alter>(store: &mut Store<S>, trade: Id) -> Result<SettlementRow, Fault>
+pub fn require_settlement<S: Alter>(
+    store: &mut Store<S>,
+    trade: Id,
+) -> Result<SettlementRow, CallFault>
     ensures read { ReadPost S.Store store.old store.new result (λ settlement t. find (λ r. r.trade == trade) t.settlements
         ≡ Some (abstract_settlement_row settlement)) }
-    ensures fault { IfErr result IsCallFault }
 {
     match store.settlement(trade)? {
         Some(settlement) => Ok(settlement),
-        None => Err(Fault::Store),
+        None => Err(CallFault::Store),
     }
 }
 
 /// Returns the number of the broker's completed trades and their commissions in cents. Fails with
 /// `Store` also if a total is out of range.
-pub fn require_broker_totals<S: Alter>(store: &mut Store<S>, id: Id) -> Result<BrokerTotals, Fault>
+pub fn require_broker_totals<S: Alter>(
+    store: &mut Store<S>,
+    id: Id,
+) -> Result<BrokerTotals, CallFault>
     ensures read { ReadPost S.Store store.old store.new result (λ numbers t. AreTotalsOfBroker t id numbers) }
-    ensures fault { IfErr result IsCallFault }
 {
-    match store.broker_numbers(id)? {
+    match store.read_broker_totals(id)? {
         Some(numbers) => Ok(numbers),
-        None => Err(Fault::Store),
+        None => Err(CallFault::Store),
     }
 }

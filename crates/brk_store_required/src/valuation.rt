@@ -2,14 +2,13 @@
 //! count below 0. A read fails with `Store` also if a held symbol has no last price or the value
 //! overflows. A crash after a read exposes only states that a crash before it could expose.
 
-ghost use Rattle.std.specs.Prelude.{◌≡◌, ◌+ℤ◌, ◌*ℤ◌, IfErr, IfSome, pos};
+ghost use Rattle.std.specs.Prelude.{◌≡◌, ◌+ℤ◌, ◌*ℤ◌, IfSome, pos};
 ghost use Rattle.brk_ref.specs.Rows.{abstract_summary_row};
 ghost use Rattle.brk_model.specs.Joins.{last_price_in_tables};
-ghost use Rattle.brk_model.specs.Run.{IsCallFault};
 ghost use Rattle.brk_store_transactions.specs.Holds.{ReadPost};
 ghost use Rattle.brk_store_required.specs.Valuation.{AreValuedSummariesOfAccount, market_value_of_summary, market_value_of_account};
 
-use brk_money::{Fault, Id, Price, Wide};
+use brk_money::{CallFault, Id, Price, Wide};
 use brk_ref::{SummaryRow, Symbol};
 use brk_store::Store;
 use sqlite::Alter;
@@ -26,13 +25,15 @@ pub struct ValuedSummaries {
 }
 
 /// Returns the last price of a symbol on the market, in cents.
-pub fn require_last_price<S: Alter>(store: &mut Store<S>, symbol: &Symbol) -> Result<Price, Fault>
+pub fn require_last_price<S: Alter>(
+    store: &mut Store<S>,
+    symbol: &Symbol,
+) -> Result<Price, CallFault>
     ensures read { ReadPost S.Store store.old store.new result (λ price t. price ≡ last_price_in_tables t symbol.now) }
-    ensures fault { IfErr result IsCallFault }
 {
     match store.last_trade(symbol)? {
         Some(last) => Ok(last.price),
-        None => Err(Fault::Store),
+        None => Err(CallFault::Store),
     }
 }
 
@@ -53,14 +54,13 @@ fn add_value_at_last_price<S: Alter>(
     store: &mut Store<S>,
     amount: Wide,
     row: &SummaryRow,
-) -> Result<Wide, Fault>
+) -> Result<Wide, CallFault>
     ensures read { ReadPost S.Store store.old store.new result (λ sum t. sum ≡ amount +ℤ market_value_of_summary t (abstract_summary_row row.now)) }
-    ensures fault { IfErr result IsCallFault }
 {
     let price = require_last_price(store, &row.symbol)?;
     match add_market_value(amount, row, price) {
         Some(sum) => Ok(sum),
-        None => Err(Fault::Store),
+        None => Err(CallFault::Store),
     }
 }
 
@@ -70,12 +70,11 @@ pub fn read_valued_summaries<S: Alter>(
     alloc: Global,
     store: &mut Store<S>,
     account: Id,
-) -> Result<ValuedSummaries, Fault>
+) -> Result<ValuedSummaries, CallFault>
     ensures read { ReadPost S.Store store.old store.new result (λ held t. AreValuedSummariesOfAccount t account held) }
-    ensures fault { IfErr result IsCallFault }
 {
     let mut total = Wide::new(0);
-    let rows = store.summaries_of(alloc, account)?;
+    let rows = store.read_summaries(alloc, account)?;
     for row in &rows {
         let sum = add_value_at_last_price(store, total, row)?;
         total = sum;
@@ -88,9 +87,8 @@ pub fn read_holdings_value<S: Alter>(
     alloc: Global,
     store: &mut Store<S>,
     account: Id,
-) -> Result<Wide, Fault>
+) -> Result<Wide, CallFault>
     ensures read { ReadPost S.Store store.old store.new result (λ worth t. worth ≡ market_value_of_account t account) }
-    ensures fault { IfErr result IsCallFault }
 {
     let held = read_valued_summaries(alloc, store, account)?;
     Ok(held.value)

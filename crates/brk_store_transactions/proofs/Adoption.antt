@@ -14,13 +14,14 @@ use Rattle.sqlite.specs.declared.error.Error.{Error}
 use Rattle.sqlite.proofs.StateLemmas.{survives_weaker}
 use Rattle.brk_money.specs.declared.fault.Condition.{Condition}
 use Rattle.brk_money.specs.declared.fault.Condition.TheVariants as condition
+use Rattle.brk_money.specs.Kinds.{fault_of_call}
+use Rattle.brk_money.specs.declared.fault.CallFault.{CallFault}
 use Rattle.brk_money.specs.declared.fault.Fault.{Fault}
 use Rattle.brk_money.specs.declared.fault.Fault.TheVariants.{Store, Damaged}
 use Rattle.brk_model.specs.Adopted.{base_of_tables}
 use Rattle.brk_model.specs.Base.{empty_base}
 use Rattle.brk_model.specs.Form.{has_utf8_texts}
 use Rattle.brk_model.specs.Upgraded.{tables_upgraded_from_schema}
-use Rattle.brk_model.specs.Run.{IsCallFault}
 use Rattle.brk_model.specs.Schemas.{third_schema}
 use Rattle.brk_model.specs.Sheets.{sheets}
 use Rattle.brk_model.specs.Tables.{Tables, tables_without_rows}
@@ -131,7 +132,7 @@ audited_third db (Some c) defined there h = subst (λ s. IsDatabaseAuditResultBy
 module _ {S : Type 0} (g : Ghosts S) (old first : Held S) (settled : IsTrue (state g old).is_open → (state g old).now ≡ (state g old).committed) where
   -- ---- rolled back, whatever was told: of a desk of the third schema it is an audit
 
-  module _ {V : Type 0} (mid end : Held S) (out : Result V Fault) (Q : V → State → State → Type 0)
+  module _ {V E : Type 0} (mid end : Held S) (out : Result V E) (Q : V → State → State → Type 0)
       (step : IsTransactionStep (state g (with_transaction_open old)) (state g mid) out Q) (late : Survives (state g mid) (state g end) (λ _. ⊥))
       (back : HasCleanDisk (state g end) → IsRolledBack (state g mid) (state g end)) where
     passed : Survives (state g old) (state g end) (λ _. ⊥)
@@ -175,10 +176,12 @@ module _ {S : Type 0} (g : Ghosts S) (old first : Held S) (settled : IsTrue (sta
       audited = as_audit (Err fault) told opened;
     }
 
-    gave_up : (fault : Fault) → IsCallFault fault → AdoptPost g old end (Err fault)
-    gave_up fault may = none_adopted fault (λ clean defined. on_fault fault (IsDatabaseAuditResult (state g old).now) may) (λ clean. on_fault fault (λ _. IsTrue (state g old).is_open) may)
+    pub gave_up : (fault : CallFault) → AdoptPost g old end (Err (fault_of_call fault))
+    gave_up fault =
+        none_adopted (fault_of_call fault) (λ clean defined. on_fault fault (IsDatabaseAuditResult (state g old).now))
+        (λ clean. on_fault fault (λ _. IsTrue (state g old).is_open))
 
-  module _ (told : AuditResult) (step : IsTransactionStep {V = AuditResult} {E = Fault} (state g (with_transaction_open old)) (state g first) (Ok told) ReturnsTrueAuditResult) where
+  module _ (told : AuditResult) (step : IsTransactionStep {V = AuditResult} {E = CallFault} (state g (with_transaction_open old)) (state g first) (Ok told) ReturnsTrueAuditResult) where
     looked : (end : Held S) → Survives (state g first) (state g end) (λ _. ⊥) → HasCleanDisk (state g end) → ReturnsTrueAuditResult told (state g (with_transaction_open old)) (state g first)
     looked end late clean = (step.relates_states (clean_before (state g first) (state g end) (λ _. ⊥) late clean) refl).1
 
@@ -236,21 +239,21 @@ module _ {S : Type 0} (g : Ghosts S) (old first : Held S) (settled : IsTrue (sta
 
     module _ (schema : known.Schema) (is : told ≡ Succeeds schema) (older : (abstract_schema schema).has_settle_rule_table ≡ false) (mid : Held S) where
       -- the move gave up
-      pub move_gives_up : (end : Held S) (fault : Fault) → IsCallFault fault
-          → IsTransactionStep {V = Unit {0}} {E = Fault} (state g first) (state g mid) (Err fault)
+      pub move_gives_up : (end : Held S) (fault : CallFault)
+          → IsTransactionStep {V = Unit {0}} {E = CallFault} (state g first) (state g mid) (Err fault)
           (λ _ a b. UpgradesTables (abstract_schema schema) a.now b.now)
-          → Survives (state g mid) (state g end) (λ _. ⊥) → (HasCleanDisk (state g end) → IsRolledBack (state g mid) (state g end)) → AdoptPost g old end (Err fault)
-      move_gives_up end fault may move late back =
+          → Survives (state g mid) (state g end) (λ _. ⊥) → (HasCleanDisk (state g end) → IsRolledBack (state g mid) (state g end)) → AdoptPost g old end (Err (fault_of_call fault))
+      move_gives_up end fault move late back =
           gave_up mid end (Err fault) (λ _ a b. UpgradesTables (abstract_schema schema) a.now b.now)
           (step_then (state g (with_transaction_open old)) (state g first) (state g mid) told (Err fault) ReturnsTrueAuditResult
           (λ _ a b. UpgradesTables (abstract_schema schema) a.now b.now) (λ _ a b. UpgradesTables (abstract_schema schema) a.now b.now)
           (λ _ l m. subst (λ d. UpgradesTables (abstract_schema schema) d (state g mid).now) l.1 m) step move)
-          late back fault may
+          late back fault
 
-      module _ (move : IsTransactionStep {V = Unit {0}} {E = Fault} (state g first) (state g mid) (Ok tt)
+      module _ (move : IsTransactionStep {V = Unit {0}} {E = CallFault} (state g first) (state g mid) (Ok tt)
           (λ _ a b. UpgradesTables (abstract_schema schema) a.now b.now)) (end : Held S)
           (late : Survives (state g mid) (state g end) (λ db. db ≡ (state g mid).now.trees)) where
-        made : IsTransactionStep {V = Unit {0}} {E = Fault} (state g (with_transaction_open old)) (state g mid) (Ok tt) (λ _ a b. HasPassingRowsAndUpgrades schema a.now b.now)
+        made : IsTransactionStep {V = Unit {0}} {E = CallFault} (state g (with_transaction_open old)) (state g mid) (Ok tt) (λ _ a b. HasPassingRowsAndUpgrades schema a.now b.now)
         made =
             step_then (state g (with_transaction_open old)) (state g first) (state g mid) told (Ok tt) ReturnsTrueAuditResult
             (λ _ a b. UpgradesTables (abstract_schema schema) a.now b.now) (λ _ a b. HasPassingRowsAndUpgrades schema a.now b.now)

@@ -6,7 +6,8 @@ use Rattle.sqlite.specs.Effect.{Database}
 use Rattle.sqlite.specs.State.{State}
 use Rattle.brk_money.specs.declared.fault.Condition.{Condition}
 use Rattle.brk_money.specs.declared.fault.Condition.TheVariants as condition
-use Rattle.brk_money.specs.declared.fault.Fault.{Fault}
+use Rattle.brk_money.specs.declared.fault.CallFault.{CallFault}
+use Rattle.brk_money.specs.declared.fault.StoreFailed.{StoreFailed}
 use Rattle.brk_model.specs.Audit.{ConditionHolds, IsAuditResult, IsFirstFailingCondition, row_conditions}
 use Rattle.brk_model.specs.Form.{satisfies_form_condition, has_utf8_texts}
 use Rattle.brk_model.specs.Schemas.{Schema, third_schema}
@@ -109,8 +110,8 @@ abbrev pub AuditsByThirdSchema : Option Condition → State → State → Type 0
 AuditsByThirdSchema answer a b = IsTrue a.is_open × (b.now ≡ a.now) × (TablesWithSchemaNamesAreDeskTables third_schema a.now → IsDatabaseAuditResultBySchema third_schema a.now answer)
 
 module _ (schema : known.Schema) (a b : State) where
-  pub no_form : IsTransactionStep {V = Option Sheets} {E = Fault} a b (Ok None) (ReadsSheetsOfSchema schema)
-      → IsTransactionStep {V = Option Condition} {E = Fault} a b (Ok (Some condition.Form)) (AuditsDeskOfSchema schema)
+  pub no_form : IsTransactionStep {V = Option Sheets} {E = CallFault} a b (Ok None) (ReadsSheetsOfSchema schema)
+      → IsTransactionStep {V = Option Condition} {E = CallFault} a b (Ok (Some condition.Form)) (AuditsDeskOfSchema schema)
   no_form step =
       step_read a b None (Ok (Some condition.Form)) (ReadsSheetsOfSchema schema) (AuditsDeskOfSchema schema)
       (λ answer is p.
@@ -128,10 +129,10 @@ module _ (schema : known.Schema) (a b : State) where
       (here ∙ sym keys ∙ sym there) row_conditions answer h
 
   -- the sheets have the schema whose rows were read, and are audited by it
-  pub rows_told : (sheets : Sheets) (r : Result (Option Condition) Fault) → sheets.schema ≡ schema
-      → IsTransactionStep {V = Option Sheets} {E = Fault} a b (Ok (Some sheets)) (ReadsSheetsOfSchema schema)
+  pub rows_told : (sheets : Sheets) (r : Result (Option Condition) CallFault) → sheets.schema ≡ schema
+      → IsTransactionStep {V = Option Sheets} {E = CallFault} a b (Ok (Some sheets)) (ReadsSheetsOfSchema schema)
       → IfOk r (λ answer. IsAuditResult (abstract_schema sheets.schema) (abstract_sheets sheets) answer)
-      → IsTransactionStep {V = Option Condition} {E = Fault} a b r (AuditsDeskOfSchema schema)
+      → IsTransactionStep {V = Option Condition} {E = CallFault} a b r (AuditsDeskOfSchema schema)
   rows_told sheets r of_schema step own =
       let audit = subst (λ (s : known.Schema). IfOk r (λ answer. IsAuditResult (abstract_schema s) (abstract_sheets sheets) answer)) of_schema own in
       step_read a b (Some sheets) r (ReadsSheetsOfSchema schema) (AuditsDeskOfSchema schema)
@@ -145,9 +146,9 @@ module _ (schema : known.Schema) (a b : State) where
       )) step
 
 -- the desk of the third schema was asked for, and is there
-pub desk_told : (a b c : State) (r : Result (Option Condition) Fault) → IsTransactionStep {V = Bool} {E = Fault} a b (Ok true) (ShowsIfHasDesk Third)
-    → IsTransactionStep {V = Option Condition} {E = Fault} b c r (AuditsDeskOfSchema Third)
-    → IsTransactionStep {V = Option Condition} {E = Fault} a c r AuditsByThirdSchema
+pub desk_told : (a b c : State) (r : Result (Option Condition) CallFault) → IsTransactionStep {V = Bool} {E = StoreFailed} a b (Ok true) (ShowsIfHasDesk Third)
+    → IsTransactionStep {V = Option Condition} {E = CallFault} b c r (AuditsDeskOfSchema Third)
+    → IsTransactionStep {V = Option Condition} {E = CallFault} a c r AuditsByThirdSchema
 desk_told a b c r asked tried =
     step_then a b c true r (ShowsIfHasDesk Third) (AuditsDeskOfSchema Third) AuditsByThirdSchema
     (λ answer p q. (

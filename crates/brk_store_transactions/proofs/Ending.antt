@@ -132,11 +132,11 @@ module _ {S V E : Type 0} (g : Ghosts S) (old mid end : Held S) (settled : IsTru
   is_unchanged = rolled_back g old mid end settled r Q (λ _. ⊥) step back late
 
   -- A transaction that is rolled back at a fault applies no change.
-  pub applies_nothing : (new : Held S) (result : Result (Unit {0}) Fault) (fault : Fault) (after : Tables → Tables) → end ≡ new → result ≡ Err fault
-      → ApplyPost {V = Unit {0}} {E = Fault} g old new result after
-  applies_nothing new result fault after ended is =
-      subst (λ h. ApplyPost {V = Unit {0}} {E = Fault} g old h result after) ended
-      (subst (λ o. ApplyPost {V = Unit {0}} {E = Fault} g old end o after) (sym is)
+  pub applies_nothing : {F : Type 0} (new : Held S) (result : Result (Unit {0}) F) (fault : F) (after : Tables → Tables) → end ≡ new → result ≡ Err fault
+      → ApplyPost {V = Unit {0}} {E = F} g old new result after
+  applies_nothing {F} new result fault after ended is =
+      subst (λ h. ApplyPost {V = Unit {0}} {E = F} g old h result after) ended
+      (subst (λ o. ApplyPost {V = Unit {0}} {E = F} g old end o after) (sym is)
       (record {
         applied = tt;
         open_and_committed = λ clean. tt;
@@ -174,8 +174,8 @@ module _ {S V E : Type 0} (g : Ghosts S) (old mid end : Held S) (settled : IsTru
 
 -- ---- committed, or not
 
-module _ {S : Type 0} (g : Ghosts S) (old mid end : Held S) (settled : IsTrue (state g old).is_open → (state g old).now ≡ (state g old).committed) (made : Database → Database → Type 0)
-    (step : IsTransactionStep {V = Unit {0}} {E = Fault} (state g (with_transaction_open old)) (state g mid) (Ok tt) (λ _ a b. made a.now b.now))
+module _ {S E : Type 0} (g : Ghosts S) (old mid end : Held S) (settled : IsTrue (state g old).is_open → (state g old).now ≡ (state g old).committed) (made : Database → Database → Type 0)
+    (step : IsTransactionStep {V = Unit {0}} {E = E} (state g (with_transaction_open old)) (state g mid) (Ok tt) (λ _ a b. made a.now b.now))
     (late : Survives (state g mid) (state g end) (λ db. db ≡ (state g mid).now.trees)) where
   pub whole : Survives (state g old) (state g end) (λ trees. (db : Database) × made (state g old).now db × (trees ≡ db.trees))
   whole = commits_crash g old mid end made step late
@@ -189,13 +189,13 @@ module _ {S : Type 0} (g : Ghosts S) (old mid end : Held S) (settled : IsTrue (s
 
   pub kept_at : (e : Error) → (HasCleanDisk (state g end) → FailsToCommit (state g mid) (state g end) e) → HasCleanDisk (state g end)
       → IsTrue (state g end).is_open → WasOpenAndIsUnchanged (state g old) (state g end)
-  kept_at e fails = rolled_back g old mid end settled {V = Unit {0}} {E = Fault} (Ok tt) (λ _ a b. made a.now b.now) _ step (back e fails) late
+  kept_at e fails = rolled_back g old mid end settled {V = Unit {0}} {E = E} (Ok tt) (λ _ a b. made a.now b.now) _ step (back e fails) late
 
   module _ (done : HasCleanDisk (state g end) → IsTrue (state g mid).in_transaction
       × Shows (state g mid) (state g end) (state g mid).now (state g mid).now false × KeepsCounts (state g mid) (state g end)
       × ((state g end).marks ≡ [])) where
     pub all : HasCleanDisk (state g end) → IsTrue (state g old).is_open × IsTrue (state g end).is_open × made (state g old).now (state g end).now × ((state g end).committed ≡ (state g end).now)
-    all clean = commits_all g old mid end made step late {F = Fault} (Ok tt) clean done
+    all clean = commits_all g old mid end made step late {F = E} (Ok tt) clean done
 
     -- while a store is open a crash leaves the last commit and nothing else
     leaves_now : ((db : Trees) → IsTrue (state g end).is_open → (state g end).may_leave db → db ≡ (state g end).committed.trees) → HasCleanDisk (state g end)
@@ -204,7 +204,7 @@ module _ {S : Type 0} (g : Ghosts S) (old mid end : Held S) (settled : IsTrue (s
 
     pub applies : ((db : Trees) → IsTrue (state g end).is_open → (state g end).may_leave db → db ≡ (state g end).committed.trees) → (after : Tables → Tables)
         → ((a b : Database) → made a b → ChangesTablesBy desk_tables after a b)
-        → ApplyPost {V = Unit {0}} {E = Fault} g old end (Ok tt) after
+        → ApplyPost {V = Unit {0}} {E = E} g old end (Ok tt) after
     applies law after turns = record {
       applied = λ t holds clean o.
           let it = all clean in
@@ -238,8 +238,8 @@ module _ {S : Type 0} (g : Ghosts S) (old mid end : Held S) (settled : IsTrue (s
 
   module _ (e : Error) (fails : HasCleanDisk (state g end) → FailsToCommit (state g mid) (state g end) e) where
     -- it was open where the changes began
-    pub applies_none : (HasCleanDisk (state g mid) → IsTrue (state g old).is_open) → (fault : Fault) (after : Tables → Tables)
-        → ((a b : Database) → made a b → ChangesTablesBy desk_tables after a b) → ApplyPost {V = Unit {0}} {E = Fault} g old end (Err fault) after
+    pub applies_none : (HasCleanDisk (state g mid) → IsTrue (state g old).is_open) → (fault : E) (after : Tables → Tables)
+        → ((a b : Database) → made a b → ChangesTablesBy desk_tables after a b) → ApplyPost {V = Unit {0}} {E = E} g old end (Err fault) after
     applies_none was_open fault after turns = record {
       applied = tt;
       open_and_committed = λ clean. tt;

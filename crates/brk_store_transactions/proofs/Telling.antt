@@ -3,7 +3,8 @@ use Rattle.std.proofs.Common.{◌≡◌, ◌↔◌, ◌∙◌, true, false, Bool
 use Rattle.std.specs.Prelude.{IsTrue}
 use Rattle.sqlite.specs.Effect.{Database}
 use Rattle.sqlite.specs.State.{State}
-use Rattle.brk_money.specs.declared.fault.Fault.{Fault}
+use Rattle.brk_money.specs.declared.fault.CallFault.{CallFault}
+use Rattle.brk_money.specs.declared.fault.StoreFailed.{StoreFailed}
 use Rattle.brk_money.specs.declared.fault.Condition.{Condition}
 use Rattle.brk_money.specs.declared.fault.Condition.TheVariants as condition
 use Rattle.brk_trade_rows.specs.declared.schema.Schema as known
@@ -50,49 +51,49 @@ FindsSchemaOfDatabase found a b = IsTrue a.is_open × (b.now ≡ a.now) × (Tabl
 abbrev ShowsDatabaseSatisfies : (Database → Type 0) → Unit {0} → State → State → Type 0
 ShowsDatabaseSatisfies none _ a b = IsTrue a.is_open × (b.now ≡ a.now) × (TablesWithDeskNamesAreDeskTables a.now → none a.now)
 
-sure : (schema : known.Schema) (a b : State) (has : Bool) → has ≡ true → IsTransactionStep {V = Bool} {E = Fault} a b (Ok has) (ShowsIfHasDesk schema)
-    → IsTransactionStep {V = Option known.Schema} {E = Fault} a b (Ok (Some schema)) FindsSchemaOfDatabase
+sure : (schema : known.Schema) (a b : State) (has : Bool) → has ≡ true → IsTransactionStep {V = Bool} {E = StoreFailed} a b (Ok has) (ShowsIfHasDesk schema)
+    → IsTransactionStep {V = Option known.Schema} {E = StoreFailed} a b (Ok (Some schema)) FindsSchemaOfDatabase
 sure schema a b has is step =
     step_read a b has (Ok (Some schema)) (ShowsIfHasDesk schema) FindsSchemaOfDatabase
     (λ found e p. let same : Some schema ≡ found = cc in subst (λ f. FindsSchemaOfDatabase f a b) same (p.0, p.1, λ defined. (p.2 (defined schema)).0 is)) step
 
-denied : (schema : known.Schema) (a b : State) (has : Bool) → has ≡ false → IsTransactionStep {V = Bool} {E = Fault} a b (Ok has) (ShowsIfHasDesk schema)
-    → IsTransactionStep {V = Unit {0}} {E = Fault} a b (Ok tt) (ShowsDatabaseSatisfies (HasNoDeskOfSchema schema))
+denied : (schema : known.Schema) (a b : State) (has : Bool) → has ≡ false → IsTransactionStep {V = Bool} {E = StoreFailed} a b (Ok has) (ShowsIfHasDesk schema)
+    → IsTransactionStep {V = Unit {0}} {E = StoreFailed} a b (Ok tt) (ShowsDatabaseSatisfies (HasNoDeskOfSchema schema))
 denied schema a b has is step =
     step_read a b has (Ok tt) (ShowsIfHasDesk schema) (ShowsDatabaseSatisfies (HasNoDeskOfSchema schema))
     (λ _ e p. (p.0, p.1, λ defined. not_of schema a.now has (p.2 (defined schema)) is)) step
 
-also : (P Q : Database → Type 0) (a b c : State) → IsTransactionStep {V = Unit {0}} {E = Fault} a b (Ok tt) (ShowsDatabaseSatisfies P)
-    → IsTransactionStep {V = Unit {0}} {E = Fault} b c (Ok tt) (ShowsDatabaseSatisfies Q)
-    → IsTransactionStep {V = Unit {0}} {E = Fault} a c (Ok tt) (ShowsDatabaseSatisfies (λ db. P db × Q db))
+also : (P Q : Database → Type 0) (a b c : State) → IsTransactionStep {V = Unit {0}} {E = StoreFailed} a b (Ok tt) (ShowsDatabaseSatisfies P)
+    → IsTransactionStep {V = Unit {0}} {E = StoreFailed} b c (Ok tt) (ShowsDatabaseSatisfies Q)
+    → IsTransactionStep {V = Unit {0}} {E = StoreFailed} a c (Ok tt) (ShowsDatabaseSatisfies (λ db. P db × Q db))
 also P Q a b c one two =
     step_then a b c tt (Ok tt) (ShowsDatabaseSatisfies P) (ShowsDatabaseSatisfies Q) (ShowsDatabaseSatisfies (λ db. P db × Q db))
     (λ _ p q. (p.0, q.1 ∙ p.1, λ defined. (p.2 defined, (subst (λ d. TablesWithDeskNamesAreDeskTables d → Q d) p.1 q.2) defined))) one two
 
 later : (P : Database → Type 0) (a b c : State) (found : Option known.Schema)
-    → IsTransactionStep {V = Unit {0}} {E = Fault} a b (Ok tt) (ShowsDatabaseSatisfies P)
-    → IsTransactionStep {V = Option known.Schema} {E = Fault} b c (Ok found) FindsSchemaOfDatabase
-    → IsTransactionStep {V = Option known.Schema} {E = Fault} a c (Ok found) FindsSchemaOfDatabase
+    → IsTransactionStep {V = Unit {0}} {E = StoreFailed} a b (Ok tt) (ShowsDatabaseSatisfies P)
+    → IsTransactionStep {V = Option known.Schema} {E = StoreFailed} b c (Ok found) FindsSchemaOfDatabase
+    → IsTransactionStep {V = Option known.Schema} {E = StoreFailed} a c (Ok found) FindsSchemaOfDatabase
 later P a b c found one two =
     step_then a b c tt (Ok found) (ShowsDatabaseSatisfies P) FindsSchemaOfDatabase FindsSchemaOfDatabase
     (λ f p q. (p.0, q.1 ∙ p.1, subst (λ d. TablesWithDeskNamesAreDeskTables d → IsSchemaOfDatabase f d) p.1 q.2)) one two
 
-module _ (a b c d : State) (third second first : Bool) (one : IsTransactionStep {V = Bool} {E = Fault} a b (Ok third) (ShowsIfHasDesk Third)) where
-  pub found_third : third ≡ true → IsTransactionStep {V = Option known.Schema} {E = Fault} a b (Ok (Some Third)) FindsSchemaOfDatabase
+module _ (a b c d : State) (third second first : Bool) (one : IsTransactionStep {V = Bool} {E = StoreFailed} a b (Ok third) (ShowsIfHasDesk Third)) where
+  pub found_third : third ≡ true → IsTransactionStep {V = Option known.Schema} {E = StoreFailed} a b (Ok (Some Third)) FindsSchemaOfDatabase
   found_third is = sure Third a b third is one
 
-  module _ (not_third : third ≡ false) (two : IsTransactionStep {V = Bool} {E = Fault} b c (Ok second) (ShowsIfHasDesk Second)) where
-    pub found_second : second ≡ true → IsTransactionStep {V = Option known.Schema} {E = Fault} a c (Ok (Some Second)) FindsSchemaOfDatabase
+  module _ (not_third : third ≡ false) (two : IsTransactionStep {V = Bool} {E = StoreFailed} b c (Ok second) (ShowsIfHasDesk Second)) where
+    pub found_second : second ≡ true → IsTransactionStep {V = Option known.Schema} {E = StoreFailed} a c (Ok (Some Second)) FindsSchemaOfDatabase
     found_second is = later (HasNoDeskOfSchema Third) a b c (Some Second) (denied Third a b third not_third one) (sure Second b c second is two)
 
-    module _ (not_second : second ≡ false) (three : IsTransactionStep {V = Bool} {E = Fault} c d (Ok first) (ShowsIfHasDesk First)) where
-      two_denied : IsTransactionStep {V = Unit {0}} {E = Fault} a c (Ok tt) (ShowsDatabaseSatisfies (λ db. HasNoDeskOfSchema Third db × HasNoDeskOfSchema Second db))
+    module _ (not_second : second ≡ false) (three : IsTransactionStep {V = Bool} {E = StoreFailed} c d (Ok first) (ShowsIfHasDesk First)) where
+      two_denied : IsTransactionStep {V = Unit {0}} {E = StoreFailed} a c (Ok tt) (ShowsDatabaseSatisfies (λ db. HasNoDeskOfSchema Third db × HasNoDeskOfSchema Second db))
       two_denied = also (HasNoDeskOfSchema Third) (HasNoDeskOfSchema Second) a b c (denied Third a b third not_third one) (denied Second b c second not_second two)
 
-      pub found_first : first ≡ true → IsTransactionStep {V = Option known.Schema} {E = Fault} a d (Ok (Some First)) FindsSchemaOfDatabase
+      pub found_first : first ≡ true → IsTransactionStep {V = Option known.Schema} {E = StoreFailed} a d (Ok (Some First)) FindsSchemaOfDatabase
       found_first is = later (λ db. HasNoDeskOfSchema Third db × HasNoDeskOfSchema Second db) a c d (Some First) two_denied (sure First c d first is three)
 
-      pub found_none : first ≡ false → IsTransactionStep {V = Option known.Schema} {E = Fault} a d (Ok None) FindsSchemaOfDatabase
+      pub found_none : first ≡ false → IsTransactionStep {V = Option known.Schema} {E = StoreFailed} a d (Ok None) FindsSchemaOfDatabase
       found_none is =
           let all = also (λ db. HasNoDeskOfSchema Third db × HasNoDeskOfSchema Second db) (HasNoDeskOfSchema First) a c d two_denied (denied First c d first is three) in
           step_read a d tt (Ok None) (ShowsDatabaseSatisfies (λ db. (HasNoDeskOfSchema Third db × HasNoDeskOfSchema Second db) × HasNoDeskOfSchema First db)) FindsSchemaOfDatabase
@@ -106,12 +107,12 @@ module _ (a b c d : State) (third second first : Bool) (one : IsTransactionStep 
 abbrev pub ReturnsTrueAuditResult : AuditResult → State → State → Type 0
 ReturnsTrueAuditResult told a b = IsTrue a.is_open × (b.now ≡ a.now) × (TablesWithDeskNamesAreDeskTables a.now → IsTrueAuditResult told a.now)
 
-module _ (a b c : State) (schema : known.Schema) (there : IsTransactionStep {V = Option known.Schema} {E = Fault} a b (Ok (Some schema)) FindsSchemaOfDatabase) where
+module _ (a b c : State) (schema : known.Schema) (there : IsTransactionStep {V = Option known.Schema} {E = StoreFailed} a b (Ok (Some schema)) FindsSchemaOfDatabase) where
   -- the desk that is there, and what its conditions told
   examined : (answer : Option Condition) (told : AuditResult)
       → ((db : Database) → DatabaseHasSchema (abstract_schema schema) db → IsDatabaseAuditResultBySchema (abstract_schema schema) db answer
       → IsTrueAuditResult told db)
-      → IsTransactionStep {V = Option Condition} {E = Fault} b c (Ok answer) (AuditsDeskOfSchema schema) → IsTransactionStep {V = AuditResult} {E = Fault} a c (Ok told) ReturnsTrueAuditResult
+      → IsTransactionStep {V = Option Condition} {E = CallFault} b c (Ok answer) (AuditsDeskOfSchema schema) → IsTransactionStep {V = AuditResult} {E = CallFault} a c (Ok told) ReturnsTrueAuditResult
   examined answer told tells step =
       step_then a b c (Some schema) (Ok told) FindsSchemaOfDatabase (λ seen x y. (told ≡ seen) × AuditsDeskOfSchema schema answer x y) ReturnsTrueAuditResult
       (λ seen p q. subst (λ t. ReturnsTrueAuditResult t a c) q.0 (
@@ -126,10 +127,10 @@ module _ (a b c : State) (schema : known.Schema) (there : IsTransactionStep {V =
       there
       (step_read b c answer (Ok told) (AuditsDeskOfSchema schema) (λ seen x y. (told ≡ seen) × AuditsDeskOfSchema schema answer x y) (λ seen e p. (let same : told ≡ seen = cc in same, p)) step)
 
-  pub tells_passes : IsTransactionStep {V = Option Condition} {E = Fault} b c (Ok None) (AuditsDeskOfSchema schema)
-      → IsTransactionStep {V = AuditResult} {E = Fault} a c (Ok (Passes schema)) ReturnsTrueAuditResult
+  pub tells_passes : IsTransactionStep {V = Option Condition} {E = CallFault} b c (Ok None) (AuditsDeskOfSchema schema)
+      → IsTransactionStep {V = AuditResult} {E = CallFault} a c (Ok (Passes schema)) ReturnsTrueAuditResult
   tells_passes = examined None (Passes schema) (λ db desk h. h)
 
-  pub tells_fails : (failing : Condition) → IsTransactionStep {V = Option Condition} {E = Fault} b c (Ok (Some failing)) (AuditsDeskOfSchema schema)
-      → IsTransactionStep {V = AuditResult} {E = Fault} a c (Ok (Fails failing)) ReturnsTrueAuditResult
+  pub tells_fails : (failing : Condition) → IsTransactionStep {V = Option Condition} {E = CallFault} b c (Ok (Some failing)) (AuditsDeskOfSchema schema)
+      → IsTransactionStep {V = AuditResult} {E = CallFault} a c (Ok (Fails failing)) ReturnsTrueAuditResult
   tells_fails failing = examined (Some failing) (Fails failing) (λ db desk h. audited_of schema db failing desk h)

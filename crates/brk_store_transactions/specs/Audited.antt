@@ -90,10 +90,7 @@ abbrev pub ConnectionTablesWithDeskNamesAreDeskTables : {S : Type 0} → Ghosts 
 ConnectionTablesWithDeskNamesAreDeskTables g held =
     HasCleanDisk (state g held) → IsTrue (state g held).is_open → TablesWithDeskNamesAreDeskTables (state g held).now
 
--- If the current database of the connection `held` has all tables of schema 3, by name and with
--- exactly their column names, they satisfy `HasDeskDefinitions`, with a desk's types, keys and
--- foreign keys (`TablesWithSchemaNamesAreDeskTables`). Vacuous if the disk assumption fails, or
--- once the database is closed.
+-- The same for the tables of schema 3 alone (`TablesWithSchemaNamesAreDeskTables`).
 abbrev pub ConnectionTablesWithThirdSchemaNamesAreDeskTables : {S : Type 0} → Ghosts S → Held S → Type 0
 ConnectionTablesWithThirdSchemaNamesAreDeskTables g held =
     HasCleanDisk (state g held) → IsTrue (state g held).is_open → TablesWithSchemaNamesAreDeskTables third_schema (state g held).now
@@ -109,8 +106,7 @@ ConnectionHasThirdSchema g held = HasCleanDisk (state g held) → IsTrue (state 
 -- connection before the call, and `new` after it.
 pub record AuditPost {S : Type 0} (g : Ghosts S) (old new : Held S) (result : Result (Unit {0}) Fault) : Type 0 where
   -- `Ok` is returned only if the rows pass the audit, and `Damaged` only with the first condition
-  -- that fails. Vacuous if a disk read up to the call's return did not return what was written, or
-  -- if the old database does not satisfy `ConnectionTablesWithThirdSchemaNamesAreDeskTables`.
+  -- that fails.
   pub answered : HasCleanDisk (state g new) → ConnectionTablesWithThirdSchemaNamesAreDeskTables g old
       → AuditAnswerSatisfies result (IsDatabaseAuditResultBySchema third_schema (state g old).now)
   -- `Ok` and `Damaged` are returned only if the database was open before the call.
@@ -134,9 +130,8 @@ UpgradesAuditedRows db after =
     (schema : typed_schema.Schema) × (t : Tables) × (passed : StoresRowsWithAuditResult (abstract_schema schema) t db None)
     × HasDeskTables (sheets (base_of_tables t)) after × PreservesTablesOutside (IsTableOfSchema (abstract_schema schema)) passed.0.0 db after
 
--- The database `db` contains the tables of a schema older than 3 with rows that pass the audit of
--- this schema and whose texts are UTF-8, and `trees` are the disk contents of a database that
--- contains the tables of schema 3 with the rows of the base that these rows determine.
+-- The disk contents `trees` are what the upgrade of the database `db` from a schema older than 3
+-- writes (`UpgradesAuditedRows`).
 abbrev pub IsUpgradedDiskContent : Database → Trees → Type 0
 IsUpgradedDiskContent db trees =
     (schema : typed_schema.Schema) × (t : Tables) × (schema ≢ Third) × StoresRowsWithAuditResult (abstract_schema schema) t db None
@@ -149,14 +144,12 @@ IsUpgradedDiskContent db trees =
 -- names and column names of a desk's, but not `HasDeskDefinitions`.
 pub record AdoptPost {S : Type 0} (g : Ghosts S) (old new : Held S) (result : Result (Unit {0}) Fault) : Type 0 where
   -- `Ok` is returned only if the rows pass the audit, and `Damaged` only with the first condition
-  -- that fails. Vacuous if a disk read up to the call's return did not return what was written, or
-  -- if the old database does not satisfy `ConnectionTablesWithDeskNamesAreDeskTables`.
+  -- that fails.
   pub answered : HasCleanDisk (state g new) → ConnectionTablesWithDeskNamesAreDeskTables g old
       → AuditAnswerSatisfies result (IsDatabaseAuditResult (state g old).now)
   -- `Ok` and `Damaged` are returned only if the database was open before the call.
   pub was_open : HasCleanDisk (state g new) → AuditAnswerSatisfies result (λ _. IsTrue (state g old).is_open)
-  -- At `Ok` the store holds rows that pass the audit of schema 3, with texts in UTF-8. Vacuous if
-  -- the old database does not satisfy `ConnectionTablesWithDeskNamesAreDeskTables`.
+  -- At `Ok` the store holds rows that pass the audit of schema 3, with texts in UTF-8.
   pub adopted : ConnectionTablesWithDeskNamesAreDeskTables g old
       → OnOk result ((t : Tables) × HoldsRows g new t × PassesAudit third_schema t × IsTrue (has_utf8_texts t))
   -- At `Ok`, if the store is open, the old rows passed the audit of their schema, the database

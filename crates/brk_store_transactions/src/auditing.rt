@@ -3,7 +3,6 @@
 ghost use Rattle.std.specs.Prelude.{◌≡◌, ◌≢◌, IfErr, IfOk, IsTrue, Some, false};
 ghost use Rattle.brk_money.specs.declared.fault.Condition.TheVariants.{NotEmpty};
 ghost use Rattle.brk_money.specs.declared.fault.Fault.TheVariants as fault;
-ghost use Rattle.brk_model.specs.Run.{IsCallFault};
 ghost use Rattle.brk_model.specs.Schemas.{third_schema};
 ghost use Rattle.brk_trade_rows.specs.Schemas.{abstract_schema};
 ghost use Rattle.brk_tables_sql.specs.Model.{IsConnectionStep};
@@ -12,7 +11,7 @@ ghost use Rattle.brk_tables_scan.specs.Schemas.{DatabaseHasSchema, TablesWithSch
 
 use crate::beginning::begin_transaction;
 use brk_audit::audit_rows;
-use brk_money::{Condition, Fault};
+use brk_money::{CallFault, Condition, Fault};
 use brk_tables_scan::{database_has_schema, read_sheets};
 use brk_trade_rows::Schema;
 use sqlite::{Alter, Connection, Transaction};
@@ -24,29 +23,30 @@ pub(crate) fn audit_rows_of_schema<S: Alter>(
     tx: &mut Transaction<'_, S>,
     alloc: Global,
     schema: Schema,
-) -> Result<Option<Condition>, Fault>
+) -> Result<Option<Condition>, CallFault>
     ensures same_reference { tx.new.conn.ghost_name ≡ tx.old.conn.ghost_name }
     ensures step { IsConnectionStep S.Store tx.old tx.new result (λ answer a b. IsTrue a.is_open × (b.now ≡ a.now)
         × (TablesWithSchemaNamesAreDeskTables (abstract_schema schema) a.now → DatabaseHasSchema (abstract_schema schema) a.now
         → IsDatabaseAuditResultBySchema (abstract_schema schema) a.now answer)) }
     ensures condition { IfOk result (λ answer. answer ≢ Some NotEmpty) }
-    ensures fault { IfErr result IsCallFault }
 {
     match read_sheets(tx, alloc, schema)? {
         None => Ok(Some(Condition::Form)),
-        Some(sheets) => audit_rows(alloc, &sheets),
+        Some(sheets) => match audit_rows(alloc, &sheets) {
+            Ok(answer) => Ok(answer),
+            Err(_) => Err(CallFault::Memory),
+        },
     }
 }
 
 fn first_failing_condition<S: Alter>(
     tx: &mut Transaction<'_, S>,
     alloc: Global,
-) -> Result<Option<Condition>, Fault>
+) -> Result<Option<Condition>, CallFault>
     ensures same_reference { tx.new.conn.ghost_name ≡ tx.old.conn.ghost_name }
     ensures step { IsConnectionStep S.Store tx.old tx.new result (λ answer a b. IsTrue a.is_open × (b.now ≡ a.now)
         × (TablesWithSchemaNamesAreDeskTables third_schema a.now → IsDatabaseAuditResultBySchema third_schema a.now answer)) }
     ensures condition { IfOk result (λ answer. answer ≢ Some NotEmpty) }
-    ensures fault { IfErr result IsCallFault }
 {
     if !database_has_schema(tx, Schema::Third)? {
         return Ok(Some(Condition::Schema));

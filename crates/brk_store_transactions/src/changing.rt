@@ -1,6 +1,6 @@
 //! Changes of rows, all in one transaction, and the creation of the tables in one.
 
-ghost use Rattle.std.specs.Prelude.{◌≡◌, ◌⊎◌, Err, IfErr, OnErr, false};
+ghost use Rattle.std.specs.Prelude.{◌≡◌, ◌⊎◌, IfErr, false};
 ghost use Rattle.brk_money.specs.declared.fault.Condition.TheVariants.{NotEmpty};
 ghost use Rattle.brk_money.specs.declared.fault.Fault.TheVariants as fault;
 ghost use Rattle.sqlite.specs.Held.{state};
@@ -10,19 +10,17 @@ ghost use Rattle.brk_tables_schema.specs.Desk.{desk_tables};
 ghost use Rattle.brk_trade_rows.specs.Changes.{tables_after_change, tables_after_changes};
 ghost use Rattle.brk_store_transactions.specs.Holds.{ApplyPost, CreatePost};
 
-use brk_money::{Condition, Fault};
+use brk_money::{Condition, Fault, StoreFailed};
 use brk_tables_schema::Table;
 use brk_tables_schema::calls::statement_compiles;
 use brk_trade_rows::Change;
 use sqlite::{Alter, Connection, Transaction};
 
-// A change of a row that does not exist changes nothing. The fault `Store` may also mean a broken
-// constraint of the table.
-fn apply_change<S: Alter>(tx: &mut Transaction<'_, S>, change: &Change) -> Result<(), Fault>
+// A change of a row that does not exist changes nothing.
+fn apply_change<S: Alter>(tx: &mut Transaction<'_, S>, change: &Change) -> Result<(), StoreFailed>
     ensures same_reference { tx.new.conn.ghost_name ≡ tx.old.conn.ghost_name }
     ensures step { IsTransactionStep (state S.Store tx.old.conn.now) (state S.Store tx.new.conn.now) result
         (λ _ a b. ChangesTablesBy desk_tables (tables_after_change change.now) a.now b.now) }
-    ensures fault { OnErr result (result ≡ Err fault.Store) }
 {
     match change {
         Change::AddBroker(broker) => brk_tables_reference::add_broker(tx, broker),
@@ -90,11 +88,13 @@ fn apply_change<S: Alter>(tx: &mut Transaction<'_, S>, change: &Change) -> Resul
     }
 }
 
-fn apply_each_change<S: Alter>(tx: &mut Transaction<'_, S>, changes: &[Change]) -> Result<(), Fault>
+fn apply_each_change<S: Alter>(
+    tx: &mut Transaction<'_, S>,
+    changes: &[Change],
+) -> Result<(), StoreFailed>
     ensures same_reference { tx.new.conn.ghost_name ≡ tx.old.conn.ghost_name }
     ensures step { IsTransactionStep (state S.Store tx.old.conn.now) (state S.Store tx.new.conn.now) result
         (λ _ a b. ChangesTablesBy desk_tables (tables_after_changes changes.now) a.now b.now) }
-    ensures fault { OnErr result (result ≡ Err fault.Store) }
 {
     for change in changes {
         apply_change(tx, change)?;
@@ -105,13 +105,15 @@ fn apply_each_change<S: Alter>(tx: &mut Transaction<'_, S>, changes: &[Change]) 
 /// Applies the changes in order in one transaction and commits it. The rows of other tables are
 /// unchanged, unless a foreign key of theirs changes or deletes them.
 ///
-/// Fails with `Store` only, also if a row to add breaks a constraint of its table or if the
-/// `sqlite` crate runs out of memory. A crash after `Ok` exposes the rows with all changes.
-pub fn apply_changes<S: Alter>(conn: &mut Connection<S>, changes: &[Change]) -> Result<(), Fault>
+/// Fails also if a row to add breaks a constraint of its table or if the `sqlite` crate runs out of
+/// memory. A crash after `Ok` exposes the rows with all changes.
+pub fn apply_changes<S: Alter>(
+    conn: &mut Connection<S>,
+    changes: &[Change],
+) -> Result<(), StoreFailed>
     requires { conn.old.in_transaction ≡ false }
     ensures mode { conn.new.in_transaction ≡ false }
     ensures applied { ApplyPost S.Store conn.old conn.new result (tables_after_changes changes.now) }
-    ensures fault { OnErr result (result ≡ Err fault.Store) }
 {
     // Called only for its contract, by which an open database outside a transaction is in its
     // committed state.
@@ -122,7 +124,7 @@ pub fn apply_changes<S: Alter>(conn: &mut Connection<S>, changes: &[Change]) -> 
     apply_each_change(&mut tx, changes)?;
     match tx.commit() {
         Ok(()) => Ok(()),
-        Err(_) => Err(Fault::Store),
+        Err(_) => Err(StoreFailed),
     }
 }
 

@@ -1,9 +1,7 @@
 //! The audit of a database by the conditions of its own schema.
 
-ghost use Rattle.std.specs.Prelude.{◌≡◌, ◌≢◌, IfErr, IfOk, IsTrue, Err, OnErr};
+ghost use Rattle.std.specs.Prelude.{◌≡◌, ◌≢◌, IfOk, IsTrue};
 ghost use Rattle.brk_money.specs.declared.fault.Condition.TheVariants.{NotEmpty};
-ghost use Rattle.brk_money.specs.declared.fault.Fault.TheVariants as fault;
-ghost use Rattle.brk_model.specs.Run.{IsCallFault};
 ghost use Rattle.brk_tables_sql.specs.Model.{IsConnectionStep};
 ghost use Rattle.brk_store_transactions.specs.Audited.{IsSchemaOfDatabase};
 ghost use Rattle.brk_store_transactions.specs.AuditResult.{IsTrueAuditResult};
@@ -11,7 +9,7 @@ ghost use Rattle.brk_store_transactions.specs.declared.examining.AuditResult.The
 ghost use Rattle.brk_tables_scan.specs.Schemas.{TablesWithDeskNamesAreDeskTables};
 
 use crate::auditing::audit_rows_of_schema;
-use brk_money::{Condition, Fault};
+use brk_money::{CallFault, Condition, StoreFailed};
 use brk_tables_scan::database_has_schema;
 use brk_trade_rows::Schema;
 use sqlite::{Alter, Transaction};
@@ -26,11 +24,10 @@ pub enum AuditResult {
     Fails(Condition),
 }
 
-fn schema_of_database<S: Alter>(tx: &mut Transaction<'_, S>) -> Result<Option<Schema>, Fault>
+fn schema_of_database<S: Alter>(tx: &mut Transaction<'_, S>) -> Result<Option<Schema>, StoreFailed>
     ensures same_reference { tx.new.conn.ghost_name ≡ tx.old.conn.ghost_name }
     ensures step { IsConnectionStep S.Store tx.old tx.new result (λ found a b. IsTrue a.is_open × (b.now ≡ a.now)
         × (TablesWithDeskNamesAreDeskTables a.now → IsSchemaOfDatabase found a.now)) }
-    ensures fault { OnErr result (result ≡ Err fault.Store) }
 {
     if database_has_schema(tx, Schema::Third)? {
         return Ok(Some(Schema::Third));
@@ -48,12 +45,11 @@ fn schema_of_database<S: Alter>(tx: &mut Transaction<'_, S>) -> Result<Option<Sc
 pub(crate) fn audit_by_own_schema<S: Alter>(
     tx: &mut Transaction<'_, S>,
     alloc: Global,
-) -> Result<AuditResult, Fault>
+) -> Result<AuditResult, CallFault>
     ensures same_reference { tx.new.conn.ghost_name ≡ tx.old.conn.ghost_name }
     ensures step { IsConnectionStep S.Store tx.old tx.new result (λ examined a b. IsTrue a.is_open × (b.now ≡ a.now)
         × (TablesWithDeskNamesAreDeskTables a.now → IsTrueAuditResult examined a.now)) }
     ensures condition { IfOk result (λ examined. examined ≢ audit_result.Fails NotEmpty) }
-    ensures fault { IfErr result IsCallFault }
 {
     let Some(schema) = schema_of_database(tx)? else {
         return Ok(AuditResult::Fails(Condition::Schema));

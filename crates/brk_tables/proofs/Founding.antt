@@ -9,9 +9,9 @@ use Rattle.sqlite.specs.State.{State}
 use Rattle.sqlite_value.specs.declared.value.Value.TheVariants.{Null, Int}
 use Rattle.brk_model.specs.Schemas.{third_schema}
 use Rattle.brk_model.specs.Tables.{tables_without_rows}
-use Rattle.brk_tables_sql.specs.Desk.{CreatesTablesWithRecords, CreatesEachTable}
+use Rattle.brk_tables_sql.specs.Desk.{CreatesEachTable}
 use Rattle.brk_tables_sql.specs.Model.{ExecutesStatement}
-use Rattle.brk_tables_sql.proofs.Founded.{all_left, part_none, part_each, founded, first_sound}
+use Rattle.brk_tables_sql.proofs.Founded.{CreatesTablesWithRecords, all_left, part_none, part_each, founded, first_sound}
 use Rattle.brk_tables_sql.proofs.Texts.{read}
 use Rattle.brk_tables_sql.proofs.Values.{cast_int, cast_null}
 use Rattle.brk_tables_sql.proofs.Writes.{inserts_alone, inserts_as}

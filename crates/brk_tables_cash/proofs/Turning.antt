@@ -4,7 +4,7 @@ use Rattle.std.proofs.Math.Nat.{le_refl}
 use Rattle.std.specs.Option.{option_map_or}
 use Rattle.sqlite.specs.Effect.{Database}
 use Rattle.sqlite.specs.State.{State}
-use Rattle.brk_money.specs.declared.fault.Fault.{Fault}
+use Rattle.brk_money.specs.declared.fault.CallFault.{CallFault}
 use Rattle.brk_tables_sql.specs.Model.{IsTransactionStep}
 use Rattle.brk_model.specs.Joins.{trade_row_with_id}
 use Rattle.brk_model.specs.Tables.{Tables, OldCashRow, CashRow, TradeRow}
@@ -26,7 +26,7 @@ turns_then f g a b c p q = λ t tree h.
     (next.0, spares_then tree a b c first.1 next.1)
 
 -- no row was moved
-pub nothing_moved : (s : State) → IsTransactionStep {V = Unit {0}} {E = Fault} s s (Ok tt) (λ _ a b. ChangesTablesBy desk_tables (tables_with_cash_rows_numbered_from 1 []) a.now b.now)
+pub nothing_moved : (s : State) → IsTransactionStep {V = Unit {0}} {E = CallFault} s s (Ok tt) (λ _ a b. ChangesTablesBy desk_tables (tables_with_cash_rows_numbered_from 1 []) a.now b.now)
 nothing_moved s = record {
   commits_nothing = λ clean. record { was_open = λ o. o; committed = λ _. refl };
   relates_states = λ clean on. (on, turns_none s.now);

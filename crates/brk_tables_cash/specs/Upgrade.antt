@@ -32,8 +32,7 @@ tables_with_cash_rows_numbered_from n [] t = t
 tables_with_cash_rows_numbered_from n (c ∷ cs) t = tables_with_cash_rows_numbered_from (n + 1) cs (tables_with_numbered_cash_row n c t)
 
 -- The tables `t` with all rows of CASH_TRANSACTION inserted into CASH_MOVE, numbered from 1 by
--- ascending stamp, those with equal stamps in the order of the table, and with no rows in
--- CASH_TRANSACTION.
+-- ascending stamp (`cash_transactions_by_stamp`), and with no rows in CASH_TRANSACTION.
 abbrev pub tables_with_cash_transactions_moved : Tables → Tables
 tables_with_cash_transactions_moved t = tables_without_cash_transactions (tables_with_cash_rows_numbered_from 1 (cash_transactions_by_stamp t) t)
 
@@ -48,9 +47,7 @@ pub record PreservesTablesOutside (In : DeskTable → Type 0) (tree : DeskTable 
 
 -- The database `new` contains the tables of schema 3 with the rows `t`. Each table of `old` that is
 -- at no tree `before w` of a table `w` of the schema `desk_before` is unchanged, unless a foreign
--- key of this table changes or deletes its rows (`PreservesTablesOutside`); it is at no tree of a
--- table of schema 3 in `new`. A tree at which no foreign key changes or deletes rows in `old` has
--- no such foreign key in `new`.
+-- key of this table changes or deletes its rows (`PreservesTablesOutside`).
 pub record HasUpgradedTables (desk_before : Schema) (before : DeskTable → ℕ) (t : Tables) (old new : Database) : Type 0 where
   pub tree : DeskTable → ℕ
   pub rows : HasTables desk_tables t tree new
@@ -69,11 +66,7 @@ AddsTablesOfLaterSchemas schema old new =
     (t : Tables) (tree : DeskTable → ℕ) → HasSelectedTables (desk_tables_of_schema schema) (IsTableOfSchema schema) t tree old
     → LacksOtherDeskTables schema t old → HasUpgradedTables schema tree t old new
 
--- If the database `old` contains the tables of `schema` with the rows `t`, and both `old` and `t`
--- lack the tables that a later schema adds (`LacksOtherDeskTables`), `new` contains the tables of
--- schema 3 with the upgraded rows (`tables_upgraded_from_schema`). Other tables are unchanged,
--- unless a foreign key of their own changes or deletes their rows (`HasUpgradedTables`). Vacuous
--- otherwise.
+-- As `AddsTablesOfLaterSchemas`, but with the upgraded rows (`tables_upgraded_from_schema`).
 abbrev pub UpgradesTables : Schema → Database → Database → Type 0
 UpgradesTables schema old new =
     (t : Tables) (tree : DeskTable → ℕ) → HasSelectedTables (desk_tables_of_schema schema) (IsTableOfSchema schema) t tree old

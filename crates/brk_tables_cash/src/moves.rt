@@ -1,7 +1,6 @@
 //! Cash rows: the rows of CASH_MOVE.
 
-ghost use Rattle.std.specs.Prelude.{◌≡◌, Err, OnErr, filter, is_none, length, nat_le, option_map, reverse, slice_get};
-ghost use Rattle.brk_money.specs.declared.fault.Fault.TheVariants.{Store};
+ghost use Rattle.std.specs.Prelude.{◌≡◌, filter, is_none, length, nat_le, option_map, reverse, slice_get};
 ghost use Rattle.brk_model.specs.Limits.{greatest_id};
 ghost use Rattle.brk_model.specs.LookupView.{is_cash_row_of_trade};
 ghost use Rattle.brk_trade_rows.specs.Changes.{tables_with_cash_text, tables_with_cash_row};
@@ -9,7 +8,7 @@ ghost use Rattle.brk_ref.specs.Rows.{abstract_cash_row};
 ghost use Rattle.brk_tables_schema.specs.Desk.{CashMoves};
 ghost use Rattle.brk_tables_schema.specs.Statements.{ReadsFirstMatch, ReadsDeskTables, WritesDeskTables};
 
-use brk_money::{Fault, Id};
+use brk_money::{Id, StoreFailed};
 use brk_ref::CashRow;
 use brk_tables_schema::calls::{execute_statement, select_rows};
 use brk_tables_schema::record::decode_first_row;
@@ -20,10 +19,9 @@ use brk_tables_schema::values::{
 use sqlite::{Alter, Transaction};
 
 /// Inserts a cash row. Fails also if its trade has a cash row.
-pub fn add_cash_row<S: Alter>(tx: &mut Transaction<'_, S>, row: &CashRow) -> Result<(), Fault>
+pub fn add_cash_row<S: Alter>(tx: &mut Transaction<'_, S>, row: &CashRow) -> Result<(), StoreFailed>
     ensures same_reference { tx.new.conn.ghost_name ≡ tx.old.conn.ghost_name }
     ensures step { WritesDeskTables S.Store tx.old tx.new result (tables_with_cash_row (abstract_cash_row row.now)) }
-    ensures fault { OnErr result (result ≡ Err Store) }
 {
     execute_statement(
         tx,
@@ -39,10 +37,11 @@ pub fn add_cash_row<S: Alter>(tx: &mut Transaction<'_, S>, row: &CashRow) -> Res
     )
 }
 
-pub fn greatest_cash_row<S: Alter>(tx: &mut Transaction<'_, S>) -> Result<Option<CashRow>, Fault>
+pub fn greatest_cash_row<S: Alter>(
+    tx: &mut Transaction<'_, S>,
+) -> Result<Option<CashRow>, StoreFailed>
     ensures same_reference { tx.new.conn.ghost_name ≡ tx.old.conn.ghost_name }
     ensures step { ReadsDeskTables S.Store tx.old tx.new result (λ o t. option_map abstract_cash_row o ≡ slice_get (reverse t.moves) 0) }
-    ensures fault { OnErr result (result ≡ Err Store) }
 {
     let rows = select_rows(
         tx,
@@ -54,10 +53,9 @@ pub fn greatest_cash_row<S: Alter>(tx: &mut Transaction<'_, S>) -> Result<Option
 
 /// Returns true if CASH_MOVE has at least 10^12 rows without a trade, which are the deposits and
 /// withdrawals. The query steps over these rows, so its time grows with their number.
-pub fn has_most_movements<S: Alter>(tx: &mut Transaction<'_, S>) -> Result<bool, Fault>
+pub fn has_most_movements<S: Alter>(tx: &mut Transaction<'_, S>) -> Result<bool, StoreFailed>
     ensures same_reference { tx.new.conn.ghost_name ≡ tx.old.conn.ghost_name }
     ensures step { ReadsDeskTables S.Store tx.old tx.new result (λ all t. all ≡ nat_le greatest_id (length (filter (λ r. is_none r.trade) t.moves))) }
-    ensures fault { OnErr result (result ≡ Err Store) }
 {
     let rows = select_rows(
         tx,
@@ -70,10 +68,9 @@ pub fn has_most_movements<S: Alter>(tx: &mut Transaction<'_, S>) -> Result<bool,
 pub fn cash_row_by_trade<S: Alter>(
     tx: &mut Transaction<'_, S>,
     trade: Id,
-) -> Result<Option<CashRow>, Fault>
+) -> Result<Option<CashRow>, StoreFailed>
     ensures same_reference { tx.new.conn.ghost_name ≡ tx.old.conn.ghost_name }
     ensures step { ReadsFirstMatch S.Store tx.old tx.new result CashMoves abstract_cash_row (is_cash_row_of_trade trade) }
-    ensures fault { OnErr result (result ≡ Err Store) }
 {
     let rows = select_rows(
         tx,
@@ -88,10 +85,9 @@ pub fn set_cash_row_name<S: Alter>(
     tx: &mut Transaction<'_, S>,
     trade: Id,
     name: &str,
-) -> Result<(), Fault>
+) -> Result<(), StoreFailed>
     ensures same_reference { tx.new.conn.ghost_name ≡ tx.old.conn.ghost_name }
     ensures step { WritesDeskTables S.Store tx.old tx.new result (tables_with_cash_text trade name.now) }
-    ensures fault { OnErr result (result ≡ Err Store) }
 {
     execute_statement(
         tx,

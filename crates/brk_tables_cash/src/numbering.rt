@@ -1,14 +1,13 @@
 //! The insertion of the cash rows of schema 1 into CASH_MOVE, under numbers.
 
-ghost use Rattle.std.specs.Prelude.{◌≡◌, IfErr, map};
-ghost use Rattle.brk_model.specs.Run.{IsCallFault};
+ghost use Rattle.std.specs.Prelude.{◌≡◌, map};
 ghost use Rattle.brk_ref.specs.Rows.{abstract_old_cash_row};
 ghost use Rattle.brk_tables_schema.specs.Statements.{WritesDeskTables};
 ghost use Rattle.brk_tables_cash.specs.Upgrade.{tables_with_cash_rows_numbered_from, tables_with_numbered_cash_row};
 
 use crate::moves::add_cash_row;
 use crate::reading::account_id_of_trade;
-use brk_money::{Fault, MoveId};
+use brk_money::{CallFault, MoveId};
 use brk_ref::{CashRow, OldCashRow};
 use sqlite::{Alter, Transaction};
 
@@ -17,13 +16,12 @@ fn add_numbered_cash_row<S: Alter>(
     tx: &mut Transaction<'_, S>,
     id: MoveId,
     row: &OldCashRow,
-) -> Result<(), Fault>
+) -> Result<(), CallFault>
     ensures same_reference { tx.new.conn.ghost_name ≡ tx.old.conn.ghost_name }
     ensures step { WritesDeskTables S.Store tx.old tx.new result (tables_with_numbered_cash_row id (abstract_old_cash_row row.now)) }
-    ensures fault { IfErr result IsCallFault }
 {
     let Some(account) = account_id_of_trade(tx, row.trade)? else {
-        return Err(Fault::Store);
+        return Err(CallFault::Store);
     };
     let numbered = CashRow {
         id,
@@ -33,7 +31,7 @@ fn add_numbered_cash_row<S: Alter>(
         amount: row.amount,
         name: row.name.clone()?,
     };
-    add_cash_row(tx, &numbered)
+    Ok(add_cash_row(tx, &numbered)?)
 }
 
 /// Inserts rows of CASH_TRANSACTION into CASH_MOVE, in order, numbered from 1, with the accounts of
@@ -42,15 +40,14 @@ fn add_numbered_cash_row<S: Alter>(
 pub fn add_numbered_cash_rows<S: Alter>(
     tx: &mut Transaction<'_, S>,
     rows: &[OldCashRow],
-) -> Result<(), Fault>
+) -> Result<(), CallFault>
     ensures same_reference { tx.new.conn.ghost_name ≡ tx.old.conn.ghost_name }
     ensures step { WritesDeskTables S.Store tx.old tx.new result (tables_with_cash_rows_numbered_from 1 (map abstract_old_cash_row rows.now)) }
-    ensures fault { IfErr result IsCallFault }
 {
     let mut number: u64 = 1;
     for row in rows {
         let Some(id) = MoveId::new(number) else {
-            return Err(Fault::Store);
+            return Err(CallFault::Store);
         };
         add_numbered_cash_row(tx, id, row)?;
         number = id.get() + 1;

@@ -1,13 +1,11 @@
 //! The reads of the upgrade: the cash rows of schema 1, and the account of a trade.
 
-ghost use Rattle.std.specs.Prelude.{◌≡◌, Err, IfErr, OnErr, map, option_map};
-ghost use Rattle.brk_money.specs.declared.fault.Fault.TheVariants.{Store};
-ghost use Rattle.brk_model.specs.Run.{IsCallFault};
+ghost use Rattle.std.specs.Prelude.{◌≡◌, map, option_map};
 ghost use Rattle.brk_model.specs.Joins.{trade_row_with_id};
 ghost use Rattle.brk_ref.specs.Rows.{abstract_old_cash_row};
 ghost use Rattle.brk_tables_schema.specs.Statements.{ReadsDeskTables};
 
-use brk_money::{Fault, Id};
+use brk_money::{CallFault, Id, StoreFailed};
 use brk_ref::OldCashRow;
 use brk_tables_schema::calls::select_rows;
 use brk_tables_schema::record::{decode_first_row, decode_rows};
@@ -19,10 +17,9 @@ use std::alloc::Global;
 pub fn all_cash_transactions<S: Alter>(
     tx: &mut Transaction<'_, S>,
     alloc: Global,
-) -> Result<Vec<OldCashRow>, Fault>
+) -> Result<Vec<OldCashRow>, CallFault>
     ensures same_reference { tx.new.conn.ghost_name ≡ tx.old.conn.ghost_name }
     ensures step { ReadsDeskTables S.Store tx.old tx.new result (λ all t. map abstract_old_cash_row all.items ≡ t.cash) }
-    ensures fault { IfErr result IsCallFault }
 {
     let rows = select_rows(
         tx,
@@ -36,10 +33,9 @@ pub fn all_cash_transactions<S: Alter>(
 pub fn account_id_of_trade<S: Alter>(
     tx: &mut Transaction<'_, S>,
     trade: Id,
-) -> Result<Option<Id>, Fault>
+) -> Result<Option<Id>, StoreFailed>
     ensures same_reference { tx.new.conn.ghost_name ≡ tx.old.conn.ghost_name }
     ensures step { ReadsDeskTables S.Store tx.old tx.new result (λ account t. account ≡ option_map (λ r. r.account) (trade_row_with_id t trade)) }
-    ensures fault { OnErr result (result ≡ Err Store) }
 {
     let rows = select_rows(
         tx,

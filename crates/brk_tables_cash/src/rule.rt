@@ -1,13 +1,12 @@
 //! The row of SETTLE_RULE.
 
-ghost use Rattle.std.specs.Prelude.{◌≡◌, Err, IfOk, OnErr, map};
-ghost use Rattle.brk_money.specs.declared.fault.Fault.TheVariants.{Store};
+ghost use Rattle.std.specs.Prelude.{◌≡◌, IfOk, map};
 ghost use Rattle.brk_trade_rows.specs.Changes.{tables_with_one_day_settlement_start};
 ghost use Rattle.brk_tables_schema.specs.Cells.{rule_cells};
 ghost use Rattle.brk_tables_schema.specs.Desk.{rule_rows};
 ghost use Rattle.brk_tables_schema.specs.Statements.{ReadsDeskTables, WritesDeskTables};
 
-use brk_money::{Day, Fault};
+use brk_money::{Day, StoreFailed};
 use brk_tables_schema::calls::{execute_statement, select_rows};
 use brk_tables_schema::rule_row::start_in_rule_rows;
 use brk_tables_schema::values::{day_param, integer_param};
@@ -15,10 +14,9 @@ use sqlite::{Alter, Row, Transaction};
 
 /// Inserts the first day of one-day settlement (SR_DAY), in days since 1970-01-01. Fails also if
 /// one is set.
-pub fn set_one_day_start<S: Alter>(tx: &mut Transaction<'_, S>, day: Day) -> Result<(), Fault>
+pub fn set_one_day_start<S: Alter>(tx: &mut Transaction<'_, S>, day: Day) -> Result<(), StoreFailed>
     ensures same_reference { tx.new.conn.ghost_name ≡ tx.old.conn.ghost_name }
     ensures step { WritesDeskTables S.Store tx.old tx.new result (tables_with_one_day_settlement_start day) }
-    ensures fault { OnErr result (result ≡ Err Store) }
 {
     execute_statement(
         tx,
@@ -27,19 +25,17 @@ pub fn set_one_day_start<S: Alter>(tx: &mut Transaction<'_, S>, day: Day) -> Res
     )
 }
 
-fn start_in_rows(rows: &[Row]) -> Result<Option<Day>, Fault>
+fn start_in_rows(rows: &[Row]) -> Result<Option<Day>, StoreFailed>
     ensures value { IfOk result (λ day. map rule_cells (rule_rows day) ≡ rows.now) }
-    ensures fault { OnErr result (result ≡ Err Store) }
 {
     Ok(start_in_rule_rows(rows)?)
 }
 
 /// Returns the first day of one-day settlement (SR_DAY), in days since 1970-01-01, or `None` if
 /// none is set. Fails also if SETTLE_RULE has two rows or more, or a row with another id than 1.
-pub fn one_day_start<S: Alter>(tx: &mut Transaction<'_, S>) -> Result<Option<Day>, Fault>
+pub fn one_day_start<S: Alter>(tx: &mut Transaction<'_, S>) -> Result<Option<Day>, StoreFailed>
     ensures same_reference { tx.new.conn.ghost_name ≡ tx.old.conn.ghost_name }
     ensures step { ReadsDeskTables S.Store tx.old tx.new result (λ day t. day ≡ t.rule) }
-    ensures fault { OnErr result (result ≡ Err Store) }
 {
     let rows = select_rows(
         tx,

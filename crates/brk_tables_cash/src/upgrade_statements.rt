@@ -1,23 +1,21 @@
 //! The statements that only an upgrade needs: it sets the number of the schema, and deletes the
 //! rows of CASH_TRANSACTION.
 
-ghost use Rattle.std.specs.Prelude.{◌≡◌, Err, OnErr};
-ghost use Rattle.brk_money.specs.declared.fault.Fault.TheVariants.{Store};
+ghost use Rattle.std.specs.Prelude.{◌≡◌};
 ghost use Rattle.brk_tables_sql.specs.Model.{IsConnectionStep};
 ghost use Rattle.brk_tables_schema.specs.Statements.{WritesDeskTables};
 ghost use Rattle.brk_tables_cash.specs.UpgradeStatements.{SetsSchemaNumberToThree, tables_without_cash_transactions};
 
-use brk_money::Fault;
+use brk_money::StoreFailed;
 use brk_tables_schema::calls::execute_statement;
 use brk_tables_schema::values::integer_param;
 use sqlite::{Alter, Transaction};
 
 /// Sets the number of the schema in DESK to 3 (D_SCHEMA). The effect is specified only if all
 /// tables of schema 3 exist.
-pub fn set_third_schema<S: Alter>(tx: &mut Transaction<'_, S>) -> Result<(), Fault>
+pub fn set_third_schema<S: Alter>(tx: &mut Transaction<'_, S>) -> Result<(), StoreFailed>
     ensures same_reference { tx.new.conn.ghost_name ≡ tx.old.conn.ghost_name }
     ensures step { IsConnectionStep S.Store tx.old tx.new result (λ _ a b. SetsSchemaNumberToThree a.now b.now) }
-    ensures fault { OnErr result (result ≡ Err Store) }
 {
     execute_statement(
         tx,
@@ -27,10 +25,9 @@ pub fn set_third_schema<S: Alter>(tx: &mut Transaction<'_, S>) -> Result<(), Fau
 }
 
 /// Deletes all rows of CASH_TRANSACTION.
-pub fn remove_cash_transactions<S: Alter>(tx: &mut Transaction<'_, S>) -> Result<(), Fault>
+pub fn remove_cash_transactions<S: Alter>(tx: &mut Transaction<'_, S>) -> Result<(), StoreFailed>
     ensures same_reference { tx.new.conn.ghost_name ≡ tx.old.conn.ghost_name }
     ensures step { WritesDeskTables S.Store tx.old tx.new result tables_without_cash_transactions }
-    ensures fault { OnErr result (result ≡ Err Store) }
 {
     execute_statement(tx, "DELETE FROM CASH_TRANSACTION", &[])
 }

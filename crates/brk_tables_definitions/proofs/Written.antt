@@ -1,11 +1,11 @@
 -- Written by tools/generate/tables.py: a desk's tables are known by their names, and their foreign keys write no rows.
-use Rattle.std.proofs.Common.{◌≡◌, ℕ, List, Option, Some, true, refl, sym, ap, ◌∙◌, slice_get}
+use Rattle.std.proofs.Common.{◌≡◌, ℕ, List, Option, Some, true, map, refl, sym, ap, ◌∙◌, slice_get}
 use Rattle.std.specs.Prelude.{bytes_eq, option_and_then}
 use Rattle.std.specs.List.{position_from}
 use Rattle.brk_tables_sql.specs.Desk.{has_no_writing_foreign_keys}
 use Rattle.brk_tables_schema.specs.Desk.{DeskTable, TheDesk, KeptRows, Brokers, Customers, Accounts, Permissions, Securities, LastTrades, Charges, Bands}
 use Rattle.brk_tables_schema.specs.Desk.{TaxRates, CustomerTaxes, Trades, TradeHistory, Requests, Holdings, Summaries, HoldingHistory, Settlements, CashRows}
-use Rattle.brk_tables_schema.specs.Desk.{CashMoves, SettleRules, all_tables, all_table_names, table_definition_at_tree}
+use Rattle.brk_tables_schema.specs.Desk.{CashMoves, SettleRules, all_tables, table_name, table_definition_at_tree}
 
 -- No foreign key of a desk's table changes or deletes rows.
 pub keys_write_nothing : (w : DeskTable) (tree : ℕ) → has_no_writing_foreign_keys (table_definition_at_tree w tree) ≡ true
@@ -33,7 +33,7 @@ keys_write_nothing CashMoves tree = refl
 keys_write_nothing SettleRules tree = refl
 
 abbrev table_of_name : List ℕ → Option DeskTable
-table_of_name name = option_and_then (slice_get all_tables) (position_from (bytes_eq name) 0 all_table_names)
+table_of_name name = option_and_then (slice_get all_tables) (position_from (bytes_eq name) 0 (map table_name all_tables))
 
 known_by_name : (w : DeskTable) (tree : ℕ) → table_of_name (table_definition_at_tree w tree).name ≡ Some w
 known_by_name TheDesk tree = refl

@@ -1,12 +1,10 @@
-ghost use Rattle.std.specs.Prelude.{◌≡◌, ◌==◌, Err, IfErr, OnErr};
-ghost use Rattle.brk_money.specs.declared.fault.Fault.TheVariants.{Store};
-ghost use Rattle.brk_model.specs.Run.{IsCallFault};
+ghost use Rattle.std.specs.Prelude.{◌≡◌, ◌==◌};
 ghost use Rattle.brk_ref.specs.Records.{abstract_account, abstract_account_row};
 ghost use Rattle.brk_trade_rows.specs.Changes.{tables_with_account};
 ghost use Rattle.brk_tables_schema.specs.Desk.{Accounts};
 ghost use Rattle.brk_tables_schema.specs.Statements.{ReadsFirstMatch, ReadsMatchingRows, WritesDeskTables};
 
-use brk_money::{Fault, Id};
+use brk_money::{CallFault, Id, StoreFailed};
 use brk_ref::{Account, AccountRow};
 use brk_tables_schema::calls::{execute_statement, select_rows};
 use brk_tables_schema::record::{decode_first_row, decode_rows};
@@ -15,10 +13,12 @@ use sqlite::{Alter, Transaction};
 use std::alloc::Global;
 
 /// Inserts an account (CUSTOMER_ACCOUNT), whose balance is its opening balance.
-pub fn add_account<S: Alter>(tx: &mut Transaction<'_, S>, account: &Account) -> Result<(), Fault>
+pub fn add_account<S: Alter>(
+    tx: &mut Transaction<'_, S>,
+    account: &Account,
+) -> Result<(), StoreFailed>
     ensures same_reference { tx.new.conn.ghost_name ≡ tx.old.conn.ghost_name }
     ensures step { WritesDeskTables S.Store tx.old tx.new result (tables_with_account (abstract_account account.now)) }
-    ensures fault { OnErr result (result ≡ Err Store) }
 {
     execute_statement(
         tx,
@@ -37,10 +37,9 @@ pub fn add_account<S: Alter>(tx: &mut Transaction<'_, S>, account: &Account) -> 
 pub fn account_by_id<S: Alter>(
     tx: &mut Transaction<'_, S>,
     id: Id,
-) -> Result<Option<AccountRow>, Fault>
+) -> Result<Option<AccountRow>, StoreFailed>
     ensures same_reference { tx.new.conn.ghost_name ≡ tx.old.conn.ghost_name }
     ensures step { ReadsFirstMatch S.Store tx.old tx.new result Accounts abstract_account_row (λ r. r.id == id) }
-    ensures fault { OnErr result (result ≡ Err Store) }
 {
     let rows = select_rows(
         tx,
@@ -55,10 +54,9 @@ pub fn accounts_of_customer<S: Alter>(
     tx: &mut Transaction<'_, S>,
     alloc: Global,
     customer: Id,
-) -> Result<Vec<AccountRow>, Fault>
+) -> Result<Vec<AccountRow>, CallFault>
     ensures same_reference { tx.new.conn.ghost_name ≡ tx.old.conn.ghost_name }
     ensures step { ReadsMatchingRows S.Store tx.old tx.new result Accounts abstract_account_row (λ r. r.customer == customer) }
-    ensures fault { IfErr result IsCallFault }
 {
     let rows = select_rows(
         tx,

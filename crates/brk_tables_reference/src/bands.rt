@@ -1,13 +1,11 @@
-ghost use Rattle.std.specs.Prelude.{◌≡◌, ◌==◌, ◌&&◌, Err, IfErr, OnErr, bytes_eq};
+ghost use Rattle.std.specs.Prelude.{◌≡◌, ◌==◌, ◌&&◌, bytes_eq};
 ghost use Rattle.brk_money.specs.Kinds.{is_same_trade_type};
-ghost use Rattle.brk_money.specs.declared.fault.Fault.TheVariants.{Store};
-ghost use Rattle.brk_model.specs.Run.{IsCallFault};
 ghost use Rattle.brk_ref.specs.Records.{abstract_band};
 ghost use Rattle.brk_trade_rows.specs.Changes.{tables_with_band};
 ghost use Rattle.brk_tables_schema.specs.Desk.{Bands};
 ghost use Rattle.brk_tables_schema.specs.Statements.{ReadsMatchingRows, WritesDeskTables};
 
-use brk_money::{Fault, TradeType};
+use brk_money::{CallFault, StoreFailed, TradeType};
 use brk_ref::{Band, Exchange, Tier};
 use brk_tables_schema::calls::{execute_statement, select_rows};
 use brk_tables_schema::record::decode_rows;
@@ -17,10 +15,9 @@ use std::alloc::Global;
 
 /// Inserts a commission band (COMMISSION_RATE), whose key is its tier, trade type, exchange and
 /// lower bound.
-pub fn add_band<S: Alter>(tx: &mut Transaction<'_, S>, band: &Band) -> Result<(), Fault>
+pub fn add_band<S: Alter>(tx: &mut Transaction<'_, S>, band: &Band) -> Result<(), StoreFailed>
     ensures same_reference { tx.new.conn.ghost_name ≡ tx.old.conn.ghost_name }
     ensures step { WritesDeskTables S.Store tx.old tx.new result (tables_with_band (abstract_band band.now)) }
-    ensures fault { OnErr result (result ≡ Err Store) }
 {
     execute_statement(
         tx,
@@ -44,11 +41,10 @@ pub fn bands_for<S: Alter>(
     tier: Tier,
     kind: TradeType,
     exchange: &Exchange,
-) -> Result<Vec<Band>, Fault>
+) -> Result<Vec<Band>, CallFault>
     ensures same_reference { tx.new.conn.ghost_name ≡ tx.old.conn.ghost_name }
     ensures step { ReadsMatchingRows S.Store tx.old tx.new result Bands abstract_band (λ r. (r.tier == tier) && is_same_trade_type r.kind kind
         && bytes_eq r.exchange exchange.now) }
-    ensures fault { IfErr result IsCallFault }
 {
     let rows = select_rows(
         tx,

@@ -1,12 +1,11 @@
-ghost use Rattle.std.specs.Prelude.{◌≡◌, ◌==◌, ◌&&◌, Err, OnErr};
+ghost use Rattle.std.specs.Prelude.{◌≡◌, ◌==◌, ◌&&◌};
 ghost use Rattle.brk_money.specs.Kinds.{is_same_trade_type};
-ghost use Rattle.brk_money.specs.declared.fault.Fault.TheVariants.{Store};
 ghost use Rattle.brk_ref.specs.Records.{abstract_charge};
 ghost use Rattle.brk_trade_rows.specs.Changes.{tables_with_charge};
 ghost use Rattle.brk_tables_schema.specs.Desk.{Charges};
 ghost use Rattle.brk_tables_schema.specs.Statements.{ReadsFirstMatch, WritesDeskTables};
 
-use brk_money::{Fault, TradeType};
+use brk_money::{StoreFailed, TradeType};
 use brk_ref::{Charge, Tier};
 use brk_tables_schema::calls::{execute_statement, select_rows};
 use brk_tables_schema::record::decode_first_row;
@@ -14,10 +13,9 @@ use brk_tables_schema::values::{charge_param, tier_param, trade_type_param};
 use sqlite::{Alter, Transaction};
 
 /// Inserts the charge of a trade type and a customer tier (CHARGE), which are its key.
-pub fn add_charge<S: Alter>(tx: &mut Transaction<'_, S>, charge: &Charge) -> Result<(), Fault>
+pub fn add_charge<S: Alter>(tx: &mut Transaction<'_, S>, charge: &Charge) -> Result<(), StoreFailed>
     ensures same_reference { tx.new.conn.ghost_name ≡ tx.old.conn.ghost_name }
     ensures step { WritesDeskTables S.Store tx.old tx.new result (tables_with_charge (abstract_charge charge.now)) }
-    ensures fault { OnErr result (result ≡ Err Store) }
 {
     execute_statement(
         tx,
@@ -34,10 +32,9 @@ pub fn charge_for<S: Alter>(
     tx: &mut Transaction<'_, S>,
     kind: TradeType,
     tier: Tier,
-) -> Result<Option<Charge>, Fault>
+) -> Result<Option<Charge>, StoreFailed>
     ensures same_reference { tx.new.conn.ghost_name ≡ tx.old.conn.ghost_name }
     ensures step { ReadsFirstMatch S.Store tx.old tx.new result Charges abstract_charge (λ r. is_same_trade_type r.kind kind && (r.tier == tier)) }
-    ensures fault { OnErr result (result ≡ Err Store) }
 {
     let rows = select_rows(
         tx,

@@ -1,11 +1,10 @@
-ghost use Rattle.std.specs.Prelude.{◌≡◌, ◌==◌, Err, OnErr, bytes_eq};
-ghost use Rattle.brk_money.specs.declared.fault.Fault.TheVariants.{Store};
+ghost use Rattle.std.specs.Prelude.{◌≡◌, ◌==◌, bytes_eq};
 ghost use Rattle.brk_ref.specs.Records.{abstract_customer};
 ghost use Rattle.brk_trade_rows.specs.Changes.{tables_with_customer};
 ghost use Rattle.brk_tables_schema.specs.Desk.{Customers};
 ghost use Rattle.brk_tables_schema.specs.Statements.{ReadsFirstMatch, WritesDeskTables};
 
-use brk_money::{Fault, Id};
+use brk_money::{Id, StoreFailed};
 use brk_ref::{Customer, TaxId};
 use brk_tables_schema::calls::{execute_statement, select_rows};
 use brk_tables_schema::record::decode_first_row;
@@ -13,10 +12,12 @@ use brk_tables_schema::values::{id_param, text_param, tier_param};
 use sqlite::{Alter, Transaction};
 
 /// Inserts a customer (CUSTOMER). Fails also if the tax id exists.
-pub fn add_customer<S: Alter>(tx: &mut Transaction<'_, S>, customer: &Customer) -> Result<(), Fault>
+pub fn add_customer<S: Alter>(
+    tx: &mut Transaction<'_, S>,
+    customer: &Customer,
+) -> Result<(), StoreFailed>
     ensures same_reference { tx.new.conn.ghost_name ≡ tx.old.conn.ghost_name }
     ensures step { WritesDeskTables S.Store tx.old tx.new result (tables_with_customer (abstract_customer customer.now)) }
-    ensures fault { OnErr result (result ≡ Err Store) }
 {
     execute_statement(
         tx,
@@ -34,10 +35,9 @@ pub fn add_customer<S: Alter>(tx: &mut Transaction<'_, S>, customer: &Customer) 
 pub fn customer_by_id<S: Alter>(
     tx: &mut Transaction<'_, S>,
     id: Id,
-) -> Result<Option<Customer>, Fault>
+) -> Result<Option<Customer>, StoreFailed>
     ensures same_reference { tx.new.conn.ghost_name ≡ tx.old.conn.ghost_name }
     ensures step { ReadsFirstMatch S.Store tx.old tx.new result Customers abstract_customer (λ r. r.id == id) }
-    ensures fault { OnErr result (result ≡ Err Store) }
 {
     let rows = select_rows(
         tx,
@@ -50,10 +50,9 @@ pub fn customer_by_id<S: Alter>(
 pub fn customer_by_tax_id<S: Alter>(
     tx: &mut Transaction<'_, S>,
     tax_id: &TaxId,
-) -> Result<Option<Customer>, Fault>
+) -> Result<Option<Customer>, StoreFailed>
     ensures same_reference { tx.new.conn.ghost_name ≡ tx.old.conn.ghost_name }
     ensures step { ReadsFirstMatch S.Store tx.old tx.new result Customers abstract_customer (λ r. bytes_eq r.tax_id tax_id.now) }
-    ensures fault { OnErr result (result ≡ Err Store) }
 {
     let rows = select_rows(
         tx,

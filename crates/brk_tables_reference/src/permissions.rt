@@ -1,11 +1,10 @@
-ghost use Rattle.std.specs.Prelude.{◌≡◌, ◌==◌, ◌&&◌, Err, OnErr, bytes_eq};
-ghost use Rattle.brk_money.specs.declared.fault.Fault.TheVariants.{Store};
+ghost use Rattle.std.specs.Prelude.{◌≡◌, ◌==◌, ◌&&◌, bytes_eq};
 ghost use Rattle.brk_ref.specs.Records.{abstract_permission};
 ghost use Rattle.brk_trade_rows.specs.Changes.{tables_with_permission};
 ghost use Rattle.brk_tables_schema.specs.Desk.{Permissions};
 ghost use Rattle.brk_tables_schema.specs.Statements.{ReadsFirstMatch, WritesDeskTables};
 
-use brk_money::{Fault, Id};
+use brk_money::{Id, StoreFailed};
 use brk_ref::{Permission, TaxId};
 use brk_tables_schema::calls::{execute_statement, select_rows};
 use brk_tables_schema::record::decode_first_row;
@@ -17,10 +16,9 @@ use sqlite::{Alter, Transaction};
 pub fn add_permission<S: Alter>(
     tx: &mut Transaction<'_, S>,
     permission: &Permission,
-) -> Result<(), Fault>
+) -> Result<(), StoreFailed>
     ensures same_reference { tx.new.conn.ghost_name ≡ tx.old.conn.ghost_name }
     ensures step { WritesDeskTables S.Store tx.old tx.new result (tables_with_permission (abstract_permission permission.now)) }
-    ensures fault { OnErr result (result ≡ Err Store) }
 {
     execute_statement(
         tx,
@@ -39,10 +37,9 @@ pub fn permission_for<S: Alter>(
     tx: &mut Transaction<'_, S>,
     account: Id,
     tax_id: &TaxId,
-) -> Result<Option<Permission>, Fault>
+) -> Result<Option<Permission>, StoreFailed>
     ensures same_reference { tx.new.conn.ghost_name ≡ tx.old.conn.ghost_name }
     ensures step { ReadsFirstMatch S.Store tx.old tx.new result Permissions abstract_permission (λ r. (r.account == account) && bytes_eq r.tax_id tax_id.now) }
-    ensures fault { OnErr result (result ≡ Err Store) }
 {
     let rows = select_rows(
         tx,

@@ -1,11 +1,10 @@
-ghost use Rattle.std.specs.Prelude.{◌≡◌, Err, OnErr, bytes_eq};
-ghost use Rattle.brk_money.specs.declared.fault.Fault.TheVariants.{Store};
+ghost use Rattle.std.specs.Prelude.{◌≡◌, bytes_eq};
 ghost use Rattle.brk_ref.specs.Records.{abstract_security_row, abstract_last_trade_row};
 ghost use Rattle.brk_trade_rows.specs.Changes.{tables_with_security, tables_with_last_trade};
 ghost use Rattle.brk_tables_schema.specs.Desk.{Securities};
 ghost use Rattle.brk_tables_schema.specs.Statements.{ReadsFirstMatch, WritesDeskTables};
 
-use brk_money::Fault;
+use brk_money::StoreFailed;
 use brk_ref::{LastTrade, Security, Symbol};
 use brk_tables_schema::calls::{execute_statement, select_rows};
 use brk_tables_schema::record::decode_first_row;
@@ -13,10 +12,12 @@ use brk_tables_schema::values::{price_param, stamp_param, text_param, volume_par
 use sqlite::{Alter, Transaction};
 
 /// Inserts a security (SECURITY), without its last trade.
-pub fn add_security<S: Alter>(tx: &mut Transaction<'_, S>, security: &Security) -> Result<(), Fault>
+pub fn add_security<S: Alter>(
+    tx: &mut Transaction<'_, S>,
+    security: &Security,
+) -> Result<(), StoreFailed>
     ensures same_reference { tx.new.conn.ghost_name ≡ tx.old.conn.ghost_name }
     ensures step { WritesDeskTables S.Store tx.old tx.new result (tables_with_security (abstract_security_row security.now)) }
-    ensures fault { OnErr result (result ≡ Err Store) }
 {
     execute_statement(
         tx,
@@ -34,10 +35,9 @@ pub fn add_security<S: Alter>(tx: &mut Transaction<'_, S>, security: &Security) 
 pub fn add_last_trade<S: Alter>(
     tx: &mut Transaction<'_, S>,
     last_trade: &LastTrade,
-) -> Result<(), Fault>
+) -> Result<(), StoreFailed>
     ensures same_reference { tx.new.conn.ghost_name ≡ tx.old.conn.ghost_name }
     ensures step { WritesDeskTables S.Store tx.old tx.new result (tables_with_last_trade (abstract_last_trade_row last_trade.now)) }
-    ensures fault { OnErr result (result ≡ Err Store) }
 {
     execute_statement(
         tx,
@@ -54,10 +54,9 @@ pub fn add_last_trade<S: Alter>(
 pub fn security_by_symbol<S: Alter>(
     tx: &mut Transaction<'_, S>,
     symbol: &Symbol,
-) -> Result<Option<Security>, Fault>
+) -> Result<Option<Security>, StoreFailed>
     ensures same_reference { tx.new.conn.ghost_name ≡ tx.old.conn.ghost_name }
     ensures step { ReadsFirstMatch S.Store tx.old tx.new result Securities abstract_security_row (λ r. bytes_eq r.symbol symbol.now) }
-    ensures fault { OnErr result (result ≡ Err Store) }
 {
     let rows = select_rows(
         tx,

@@ -1,12 +1,10 @@
-ghost use Rattle.std.specs.Prelude.{◌≡◌, ◌==◌, ◌&&◌, Err, IfErr, OnErr};
-ghost use Rattle.brk_money.specs.declared.fault.Fault.TheVariants.{Store};
-ghost use Rattle.brk_model.specs.Run.{IsCallFault};
+ghost use Rattle.std.specs.Prelude.{◌≡◌, ◌==◌, ◌&&◌};
 ghost use Rattle.brk_ref.specs.Records.{abstract_tax_rate, abstract_customer_tax};
 ghost use Rattle.brk_trade_rows.specs.Changes.{tables_with_tax_rate, tables_with_customer_tax};
 ghost use Rattle.brk_tables_schema.specs.Desk.{CustomerTaxes, TaxRates};
 ghost use Rattle.brk_tables_schema.specs.Statements.{ReadsFirstMatch, ReadsMatchingRows, WritesDeskTables};
 
-use brk_money::{Fault, Id};
+use brk_money::{CallFault, Id, StoreFailed};
 use brk_ref::{CustomerTax, Tax};
 use brk_tables_schema::calls::{execute_statement, select_rows};
 use brk_tables_schema::record::{decode_first_row, decode_rows};
@@ -15,10 +13,9 @@ use sqlite::{Alter, Transaction};
 use std::alloc::Global;
 
 /// Inserts a tax rate (TAXRATE), in hundred-thousandths.
-pub fn add_tax_rate<S: Alter>(tx: &mut Transaction<'_, S>, tax: &Tax) -> Result<(), Fault>
+pub fn add_tax_rate<S: Alter>(tx: &mut Transaction<'_, S>, tax: &Tax) -> Result<(), StoreFailed>
     ensures same_reference { tx.new.conn.ghost_name ≡ tx.old.conn.ghost_name }
     ensures step { WritesDeskTables S.Store tx.old tx.new result (tables_with_tax_rate (abstract_tax_rate tax.now)) }
-    ensures fault { OnErr result (result ≡ Err Store) }
 {
     execute_statement(
         tx,
@@ -35,10 +32,9 @@ pub fn add_tax_rate<S: Alter>(tx: &mut Transaction<'_, S>, tax: &Tax) -> Result<
 pub fn add_customer_tax<S: Alter>(
     tx: &mut Transaction<'_, S>,
     pays: &CustomerTax,
-) -> Result<(), Fault>
+) -> Result<(), StoreFailed>
     ensures same_reference { tx.new.conn.ghost_name ≡ tx.old.conn.ghost_name }
     ensures step { WritesDeskTables S.Store tx.old tx.new result (tables_with_customer_tax (abstract_customer_tax pays.now)) }
-    ensures fault { OnErr result (result ≡ Err Store) }
 {
     execute_statement(
         tx,
@@ -47,10 +43,12 @@ pub fn add_customer_tax<S: Alter>(
     )
 }
 
-pub fn tax_rate_by_id<S: Alter>(tx: &mut Transaction<'_, S>, id: Id) -> Result<Option<Tax>, Fault>
+pub fn tax_rate_by_id<S: Alter>(
+    tx: &mut Transaction<'_, S>,
+    id: Id,
+) -> Result<Option<Tax>, StoreFailed>
     ensures same_reference { tx.new.conn.ghost_name ≡ tx.old.conn.ghost_name }
     ensures step { ReadsFirstMatch S.Store tx.old tx.new result TaxRates abstract_tax_rate (λ r. r.id == id) }
-    ensures fault { OnErr result (result ≡ Err Store) }
 {
     let rows = select_rows(
         tx,
@@ -65,10 +63,9 @@ pub fn paid_tax<S: Alter>(
     tx: &mut Transaction<'_, S>,
     customer: Id,
     tax: Id,
-) -> Result<Option<CustomerTax>, Fault>
+) -> Result<Option<CustomerTax>, StoreFailed>
     ensures same_reference { tx.new.conn.ghost_name ≡ tx.old.conn.ghost_name }
     ensures step { ReadsFirstMatch S.Store tx.old tx.new result CustomerTaxes abstract_customer_tax (λ r. (r.customer == customer) && (r.tax == tax)) }
-    ensures fault { OnErr result (result ≡ Err Store) }
 {
     let rows = select_rows(
         tx,
@@ -83,10 +80,9 @@ pub fn taxes_of_customer<S: Alter>(
     tx: &mut Transaction<'_, S>,
     alloc: Global,
     customer: Id,
-) -> Result<Vec<CustomerTax>, Fault>
+) -> Result<Vec<CustomerTax>, CallFault>
     ensures same_reference { tx.new.conn.ghost_name ≡ tx.old.conn.ghost_name }
     ensures step { ReadsMatchingRows S.Store tx.old tx.new result CustomerTaxes abstract_customer_tax (λ r. r.customer == customer) }
-    ensures fault { IfErr result IsCallFault }
 {
     let rows = select_rows(
         tx,

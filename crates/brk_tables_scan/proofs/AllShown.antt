@@ -3,7 +3,8 @@ use Rattle.std.proofs.Common.{◌≡◌, Bool, List, Ok, true, refl, sym, subst,
 use Rattle.sqlite_value.specs.Order.{Row}
 use Rattle.brk_model.specs.Schemas.{Schema}
 use Rattle.sqlite.specs.State.{State}
-use Rattle.brk_money.specs.declared.fault.Fault.{Fault}
+use Rattle.brk_money.specs.declared.fault.CallFault.{CallFault}
+use Rattle.brk_money.specs.declared.fault.StoreFailed.{StoreFailed}
 use Rattle.brk_tables_sql.specs.Model.{IsTransactionStep}
 use Rattle.brk_tables_sql.proofs.Inside.{step_then, step_read}
 use Rattle.brk_tables_schema.specs.Desk.{DeskTable, TheDesk, KeptRows, Brokers, Customers, Accounts, Permissions, Securities, LastTrades, Charges, Bands}
@@ -80,12 +81,12 @@ module _ (desk : Schema) (m n : Bool) (a b c d e f g : State) (owners : OwnerRow
       keys = in_owners.keys;
     }
 
-  module _ (step_owners : IsTransactionStep {V = OwnerRows} {E = Fault} a b (Ok owners) (λ raw. ReadsOwnerTables m n raw))
-      (step_listings : IsTransactionStep {V = ListingRows} {E = Fault} b c (Ok listings) (λ raw. ShowsListingTables raw))
-      (step_terms : IsTransactionStep {V = TermsRows} {E = Fault} c d (Ok terms) (λ raw. ShowsTermsTables raw))
-      (step_trades : IsTransactionStep {V = TradeRows} {E = Fault} d e (Ok trades) (λ raw. ShowsTradeTables raw))
-      (step_bookings : IsTransactionStep {V = BookingRows} {E = Fault} e f (Ok bookings) (λ raw. ShowsBookingTables raw))
-      (step_later : IsTransactionStep {V = LaterRows} {E = Fault} f g (Ok later) (λ raw. ShowsLaterTables desk raw)) where
+  module _ (step_owners : IsTransactionStep {V = OwnerRows} {E = CallFault} a b (Ok owners) (λ raw. ReadsOwnerTables m n raw))
+      (step_listings : IsTransactionStep {V = ListingRows} {E = StoreFailed} b c (Ok listings) (λ raw. ShowsListingTables raw))
+      (step_terms : IsTransactionStep {V = TermsRows} {E = StoreFailed} c d (Ok terms) (λ raw. ShowsTermsTables raw))
+      (step_trades : IsTransactionStep {V = TradeRows} {E = StoreFailed} d e (Ok trades) (λ raw. ShowsTradeTables raw))
+      (step_bookings : IsTransactionStep {V = BookingRows} {E = StoreFailed} e f (Ok bookings) (λ raw. ShowsBookingTables raw))
+      (step_later : IsTransactionStep {V = LaterRows} {E = StoreFailed} f g (Ok later) (λ raw. ShowsLaterTables desk raw)) where
     abbrev To2 : ListingRows → State → State → Type 0
     To2 raw x y = ReadsOwnerTables m n owners x b × ShowsListingTables raw b y
 

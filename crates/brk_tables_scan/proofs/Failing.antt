@@ -4,14 +4,12 @@ use Rattle.std.proofs.Common.{Ok, Err, Result, IsErr}
 use Rattle.sqlite.specs.State.{State}
 use Rattle.sqlite.proofs.InsideLemmas.{keeps_then}
 use Rattle.sqlite.proofs.StateLemmas.{survives_then}
-use Rattle.brk_money.specs.declared.fault.Fault.{Fault}
-use Rattle.brk_money.specs.declared.fault.Fault.TheVariants.{Store}
 use Rattle.brk_tables_sql.specs.Model.{IsTransactionStep}
 use Rattle.brk_tables_sql.proofs.Inside.{clean_before}
 
 -- two steps, with any results
 pub both : {U V E F : Type 0} {a b c : State} {r : Result U E} {s : Result V F} {P : U → State → State → Type 0} {Q : V → State → State → Type 0}
-    → IsTransactionStep a b r P → IsTransactionStep b c s Q → IsTransactionStep {V = Unit {0}} {E = Fault} a c (Err Store) (λ _ _ _. Unit {0})
+    → IsTransactionStep a b r P → IsTransactionStep b c s Q → IsTransactionStep {V = Unit {0}} {E = Unit {0}} a c (Err tt) (λ _ _ _. Unit {0})
 both {U} {V} {E} {F} {a} {b} {c} first next = record {
   commits_nothing = λ clean. keeps_then a b c (first.commits_nothing (clean_before b c (λ _. ⊥) next.survives clean)) (next.commits_nothing clean);
   relates_states = λ clean on. tt;

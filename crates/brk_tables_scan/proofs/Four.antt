@@ -3,7 +3,7 @@ use Rattle.std.proofs.Common.{◌≡◌, IsTrue, List, Ok, subst, ◌∙◌}
 use Rattle.std.specs.Global.{Vec}
 use Rattle.sqlite_value.specs.Order.{Row}
 use Rattle.sqlite.specs.State.{State}
-use Rattle.brk_money.specs.declared.fault.Fault.{Fault}
+use Rattle.brk_money.specs.declared.fault.StoreFailed.{StoreFailed}
 use Rattle.brk_tables_sql.specs.Model.{IsTransactionStep}
 use Rattle.brk_tables_sql.proofs.Inside.{step_then, step_read}
 use Rattle.brk_model.specs.Schemas.{Schema}
@@ -21,9 +21,9 @@ pub shown_before : (w : DeskTable) (rows : List Row) (a b : State) → IsUnchang
 shown_before w rows a b s = subst (ShowsAllRows w rows) s.1
 
 module _ (first second third fourth : DeskTable) (a b c d e : State) (r s t u : Vec Row)
-    (one : IsTransactionStep {V = Vec Row} {E = Fault} a b (Ok r) (λ rows x y. Shown first rows x y)) (two : IsTransactionStep {V = Vec Row} {E = Fault} b c (Ok s) (λ rows x y. Shown second rows x y))
-    (three : IsTransactionStep {V = Vec Row} {E = Fault} c d (Ok t) (λ rows x y. Shown third rows x y))
-    (four : IsTransactionStep {V = Vec Row} {E = Fault} d e (Ok u) (λ rows x y. Shown fourth rows x y)) where
+    (one : IsTransactionStep {V = Vec Row} {E = StoreFailed} a b (Ok r) (λ rows x y. Shown first rows x y)) (two : IsTransactionStep {V = Vec Row} {E = StoreFailed} b c (Ok s) (λ rows x y. Shown second rows x y))
+    (three : IsTransactionStep {V = Vec Row} {E = StoreFailed} c d (Ok t) (λ rows x y. Shown third rows x y))
+    (four : IsTransactionStep {V = Vec Row} {E = StoreFailed} d e (Ok u) (λ rows x y. Shown fourth rows x y)) where
   pub shows_four : {V F : Type 0} (v : V) (made : V → State → State → Type 0)
       → (ShowsFourTables first second third fourth r.items s.items t.items u.items a e → made v a e) → IsTransactionStep {V = V} {E = F} a e (Ok v) made
   shows_four {V} {F} v made makes =
@@ -47,8 +47,8 @@ abbrev pub ShownIfPresent : Schema → DeskTable → Vec Row → State → State
 ShownIfPresent desk w rows a b = (b.now ≡ a.now) × ShowsRowsIfInSchema desk w rows.items a.now
 
 module _ (desk : Schema) (a b c : State) (r s : Vec Row)
-    (one : IsTransactionStep {V = Vec Row} {E = Fault} a b (Ok r) (λ rows x y. ShownIfPresent desk CashMoves rows x y))
-    (two : IsTransactionStep {V = Vec Row} {E = Fault} b c (Ok s) (λ rows x y. ShownIfPresent desk SettleRules rows x y)) where
+    (one : IsTransactionStep {V = Vec Row} {E = StoreFailed} a b (Ok r) (λ rows x y. ShownIfPresent desk CashMoves rows x y))
+    (two : IsTransactionStep {V = Vec Row} {E = StoreFailed} b c (Ok s) (λ rows x y. ShownIfPresent desk SettleRules rows x y)) where
   pub shows_later : {V F : Type 0} (v : V) (made : V → State → State → Type 0)
       → (ShowsTwoLaterTables desk r.items s.items a c → made v a c) → IsTransactionStep {V = V} {E = F} a c (Ok v) made
   shows_later {V} {F} v made makes =

@@ -13,7 +13,7 @@ use Rattle.sqlite_schema.specs.declared.schema.Schema.{Schema}
 use Rattle.sqlite_schema.specs.declared.schema.Table.{Table}
 use Rattle.sqlite_schema.specs.Names.{table_named}
 use Rattle.sqlite.specs.State.{State}
-use Rattle.brk_money.specs.declared.fault.Fault.{Fault}
+use Rattle.brk_money.specs.declared.fault.StoreFailed.{StoreFailed}
 use Rattle.brk_tables_sql.specs.Desk.{IsResultColumnCheckOutcome}
 use Rattle.brk_tables_sql.specs.Model.{IsTransactionStep}
 use Rattle.brk_model.specs.Schemas.{Schema as Desk}
@@ -64,12 +64,12 @@ headings_in_schema First all is = sym (take-map heading_of_borrowed_texts 20 all
 headings_in_schema Second all is = sym (take-map heading_of_borrowed_texts 21 all) ∙ ap (take 21) is
 headings_in_schema Third all is = sym (take-map heading_of_borrowed_texts 22 all) ∙ ap (take 22) is
 
-pub step_in_schema : (a b : State) (r : Result Bool Fault) (schema : known.Schema) (n : ℕ) (all : List Told)
-    → IsTransactionStep {V = Bool} {E = Fault} a b r (λ has a b. (b.now ≡ a.now) × IsHeadingCheckOutcome (map heading_of_borrowed_texts (take n all)) has a.now.schema)
+pub step_in_schema : (a b : State) (r : Result Bool StoreFailed) (schema : known.Schema) (n : ℕ) (all : List Told)
+    → IsTransactionStep {V = Bool} {E = StoreFailed} a b r (λ has a b. (b.now ≡ a.now) × IsHeadingCheckOutcome (map heading_of_borrowed_texts (take n all)) has a.now.schema)
     → n ≡ length (tables_in_schema (abstract_schema schema)) → map heading_of_borrowed_texts all ≡ map heading_of_table all_tables
-    → IsTransactionStep {V = Bool} {E = Fault} a b r (λ has a b. (b.now ≡ a.now) × IsHeadingCheckOutcome (map heading_of_table (tables_in_schema (abstract_schema schema))) has a.now.schema)
+    → IsTransactionStep {V = Bool} {E = StoreFailed} a b r (λ has a b. (b.now ≡ a.now) × IsHeadingCheckOutcome (map heading_of_table (tables_in_schema (abstract_schema schema))) has a.now.schema)
 step_in_schema a b r schema n all step count is =
-    subst (λ hs. IsTransactionStep {V = Bool} {E = Fault} a b r (λ has a b. (b.now ≡ a.now) × IsHeadingCheckOutcome hs has a.now.schema))
+    subst (λ hs. IsTransactionStep {V = Bool} {E = StoreFailed} a b r (λ has a b. (b.now ≡ a.now) × IsHeadingCheckOutcome hs has a.now.schema))
     (ap (λ n. map heading_of_borrowed_texts (take n all)) count ∙ headings_in_schema schema all is) step
 
 -- ---- of a desk

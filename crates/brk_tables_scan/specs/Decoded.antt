@@ -51,9 +51,8 @@ pub record DecodesOwnerTables (schema : Schema) (sheets : OwnerSheets) (raw : Ow
   pub brokers : map (λ r. broker_cells (abstract_broker_row r)) sheets.brokers.items ≡ raw.brokers.items
   pub customers : map (λ r. customer_cells (abstract_customer r)) sheets.customers.items ≡ raw.customers.items
 
--- True if each raw row of DESK, BROKER and CUSTOMER has exactly the columns of its table, each
--- well-formed (`passes_all_cell_checks`), and there is exactly one row of DESK, with the number of
--- the schema `desk`.
+-- True if each of these raw rows is well-formed (`passes_all_cell_checks`), and there is exactly
+-- one row of DESK, with the number of the schema `desk`.
 abbrev pub are_owner_rows_well_formed : Schema → OwnerRows → Bool
 are_owner_rows_well_formed desk raw =
     has_one_valid_desk_row desk raw.desk.items && list_all (passes_all_cell_checks broker_column_cell_checks) raw.brokers.items
@@ -67,8 +66,7 @@ pub record DecodesListingTables (sheets : ListingSheets) (raw : ListingRows) : T
   pub securities : map (λ r. security_cells (abstract_security_row r)) sheets.securities.items ≡ raw.securities.items
   pub last_trades : map (λ r. last_trade_cells (abstract_last_trade_row r)) sheets.last_trades.items ≡ raw.last_trades.items
 
--- True if each raw row of CUSTOMER_ACCOUNT, ACCOUNT_PERMISSION, SECURITY and LAST_TRADE has exactly
--- the columns of its table, each well-formed (`passes_all_cell_checks`).
+-- True if each of these raw rows is well-formed (`passes_all_cell_checks`).
 abbrev pub are_listing_rows_well_formed : ListingRows → Bool
 are_listing_rows_well_formed raw =
     list_all (passes_all_cell_checks account_column_cell_checks) raw.accounts.items
@@ -84,8 +82,7 @@ pub record DecodesTermsTables (sheets : TermsSheets) (raw : TermsRows) : Type 0 
   pub tax_rates : map (λ r. tax_rate_cells (abstract_tax_rate r)) sheets.tax_rates.items ≡ raw.tax_rates.items
   pub customer_taxes : map (λ r. customer_tax_cells (abstract_customer_tax r)) sheets.customer_taxes.items ≡ raw.customer_taxes.items
 
--- True if each raw row of CHARGE, COMMISSION_RATE, TAXRATE and CUSTOMER_TAXRATE has exactly the
--- columns of its table, each well-formed (`passes_all_cell_checks`).
+-- True if each of these raw rows is well-formed (`passes_all_cell_checks`).
 abbrev pub are_terms_rows_well_formed : TermsRows → Bool
 are_terms_rows_well_formed raw =
     list_all (passes_all_cell_checks charge_column_cell_checks) raw.charges.items
@@ -101,8 +98,7 @@ pub record DecodesTradeTables (sheets : TradeSheets) (raw : TradeRows) : Type 0 
   pub requests : map (λ r. request_cells (abstract_request_row r)) sheets.requests.items ≡ raw.requests.items
   pub holdings : map (λ r. holding_cells (abstract_holding_row r)) sheets.holdings.items ≡ raw.holdings.items
 
--- True if each raw row of TRADE, TRADE_HISTORY, TRADE_REQUEST and HOLDING has exactly the columns
--- of its table, each well-formed (`passes_all_cell_checks`).
+-- True if each of these raw rows is well-formed (`passes_all_cell_checks`).
 abbrev pub are_trade_rows_well_formed : TradeRows → Bool
 are_trade_rows_well_formed raw =
     list_all (passes_all_cell_checks trade_column_cell_checks) raw.trades.items
@@ -118,8 +114,7 @@ pub record DecodesBookingTables (sheets : BookingSheets) (raw : BookingRows) : T
   pub settlements : map (λ r. settlement_cells (abstract_settlement_row r)) sheets.settlements.items ≡ raw.settlements.items
   pub cash : map (λ r. cash_cells (abstract_old_cash_row r)) sheets.cash.items ≡ raw.cash.items
 
--- True if each raw row of HOLDING_SUMMARY, HOLDING_HISTORY, SETTLEMENT and CASH_TRANSACTION has
--- exactly the columns of its table, each well-formed (`passes_all_cell_checks`).
+-- True if each of these raw rows is well-formed (`passes_all_cell_checks`).
 abbrev pub are_booking_rows_well_formed : BookingRows → Bool
 are_booking_rows_well_formed raw =
     list_all (passes_all_cell_checks summary_column_cell_checks) raw.summaries.items
@@ -134,21 +129,19 @@ pub record DecodesLaterTables (sheets : LaterSheets) (raw : LaterRows) : Type 0 
   pub moves : map (λ r. move_cells (abstract_cash_row r)) sheets.moves.items ≡ raw.moves.items
   pub rule : map rule_cells (rule_rows sheets.rule) ≡ raw.rule.items
 
--- True if each raw row of CASH_MOVE and SETTLE_RULE has exactly the columns of its table, each
--- well-formed (`passes_all_cell_checks`), and there is at most one row of SETTLE_RULE.
+-- True if each of these raw rows is well-formed (`passes_all_cell_checks`), and there is at most
+-- one row of SETTLE_RULE.
 abbrev pub are_later_rows_well_formed : LaterRows → Bool
 are_later_rows_well_formed raw =
     list_all (passes_all_cell_checks move_column_cell_checks) raw.moves.items && has_at_most_one_valid_rule_row raw.rule.items
 
--- True if each raw row of each table but KEPT has exactly the columns of its table, each well-formed
--- (`passes_all_cell_checks`), there is exactly one row of DESK, with the number of the schema
--- `desk`, and there is at most one row of SETTLE_RULE.
+-- True if the raw rows of each table but KEPT are well-formed.
 abbrev pub are_raw_rows_well_formed : Schema → RawSheets → Bool
 are_raw_rows_well_formed desk raw =
     are_owner_rows_well_formed desk raw.owners && are_listing_rows_well_formed raw.listings && are_terms_rows_well_formed raw.terms
     && are_trade_rows_well_formed raw.trades && are_booking_rows_well_formed raw.bookings && are_later_rows_well_formed raw.later
 
--- True if each row of KEPT has exactly the columns of its table, each well-formed.
+-- True if each row of KEPT is well-formed.
 abbrev pub are_kept_rows_well_formed : List Row → Bool
 are_kept_rows_well_formed kept = list_all (passes_all_cell_checks kept_column_cell_checks) kept
 
@@ -159,9 +152,7 @@ are_raw_sheets_well_formed desk kept raw = are_kept_rows_well_formed kept && are
 
 -- The raw rows of each table are, in order, the encodings of the typed rows `sheets`. Of KEPT,
 -- `sheets` has the keys alone: the raw rows of KEPT are, in order, the encodings of `whole`, typed
--- rows with these keys and any texts. DESK has exactly one row, with the id 1 and the number of the
--- schema `desk`. SETTLE_RULE has one row if `sheets` has a first day of one-day settlement,
--- otherwise none.
+-- rows with these keys and any texts.
 pub record DecodesSheets (desk : Schema) (kept : List Row) (sheets : Sheets) (raw : RawSheets) : Type 0 where
   pub whole : List typed.Kept
   pub keys : keys_of_kept_rows whole ≡ map abstract_key sheets.kept.items
@@ -177,18 +168,13 @@ DecodesRows desk sheets raw = (kept : List Row) → AreKeysOfRawRows raw.owners.
 -- well-formed. If `new` is true, `old` is true and `Decodes` holds. If `new` is false, `old` or
 -- `are_well_formed` is false.
 pub record ContinuesDecoding (old new are_well_formed : Bool) (Decodes : Type 0) : Type 0 where
-  -- If the flag is true after the step, it was true before it.
   pub before : new ≡ true → old ≡ true
-  -- If the flag is true after the step, the step decodes its rows.
   pub value : new ≡ true → Decodes
-  -- If the flag is false after the step, it was false before it, or the rows of the step are not
-  -- well-formed.
   pub form : new ≡ false → (old ≡ false) ⊎ (are_well_formed ≡ false)
 
 -- The reads, from the state `a` to the state `b`, return all rows of DESK, BROKER and CUSTOMER, and
--- the keys of `kept`, all rows of KEPT, from an open database (`ShowsAllRows`), and leave its
--- contents unchanged. The flag is `old` before the keys are decoded and `new` after it. The clause
--- on the rows of a table is vacuous if the database does not define it as a desk does.
+-- the keys of `kept`, all rows of KEPT (`ShowsFourTables`). The flag is `old` before the keys are
+-- decoded and `new` after it.
 pub record ReadsOwnerTables (old new : Bool) (raw : OwnerRows) (a b : State) : Type 0 where
   pub kept : List Row
   pub shown : ShowsFourTables TheDesk KeptRows Brokers Customers raw.desk.items kept raw.brokers.items raw.customers.items a b
@@ -203,11 +189,8 @@ pub record ReadsRawSheets (desk : Schema) (old new : Bool) (raw : RawSheets) (a 
   pub keys : ContinuesDecoding old new (are_kept_rows_well_formed kept) (AreKeysOfRawRows raw.owners.kept.items kept)
 
 -- The reads, from the state `a` to the state `b`, return all rows of each table of the schema
--- `desk`, and none of other tables (`ShowsRowsIfInSchema`). The database was open, and its contents
--- are unchanged. If the flag `new` after the decoding is true, the flag `old` before it was true,
--- and the typed rows `sheets` are the decoded rows, but for the texts of KEPT. If `new` is false,
--- `old` was false or the rows are malformed (`are_raw_sheets_well_formed`). The clause on the rows
--- of a table is vacuous if the database does not define it as a desk does.
+-- `desk` (`ShowsAllTables`), and the typed rows `sheets` are the decoded rows, but for the texts of
+-- KEPT. The flag is `old` before the decoding and `new` after it.
 pub record ReadsAndDecodesDeskTables (desk : Schema) (old new : Bool) (sheets : Sheets) (a b : State) : Type 0 where
   pub kept : List Row
   pub raw : RawSheets

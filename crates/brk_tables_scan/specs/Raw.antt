@@ -21,8 +21,7 @@ abbrev pub IsUnchangedAndOpen : State → State → Type 0
 IsUnchangedAndOpen old new = IsTrue old.is_open × (new.now ≡ old.now)
 
 -- The database was open, and the reads changed nothing. The lists `a`, `b`, `c` and `d` are all
--- rows of the tables `first`, `second`, `third` and `fourth` (`ShowsAllRows`). The clause on a
--- table is vacuous if the database does not define it as a desk does.
+-- rows of the tables `first`, `second`, `third` and `fourth` (`ShowsAllRows`).
 pub record ShowsFourTables (first second third fourth : DeskTable) (a b c d : List Row) (old new : State) : Type 0 where
   pub stays : IsUnchangedAndOpen old new
   pub one : ShowsAllRows first a old.now
@@ -30,41 +29,32 @@ pub record ShowsFourTables (first second third fourth : DeskTable) (a b c d : Li
   pub three : ShowsAllRows third c old.now
   pub four : ShowsAllRows fourth d old.now
 
--- The database was open, the reads changed nothing, and the raw rows are all rows of
--- CUSTOMER_ACCOUNT, ACCOUNT_PERMISSION, SECURITY and LAST_TRADE (`ShowsAllRows`). The clause on a
--- table is vacuous if the database does not define it as a desk does.
+-- `ShowsFourTables` of the raw rows of CUSTOMER_ACCOUNT, ACCOUNT_PERMISSION, SECURITY and
+-- LAST_TRADE.
 abbrev pub ShowsListingTables : ListingRows → State → State → Type 0
 ShowsListingTables raw = ShowsFourTables Accounts Permissions Securities LastTrades raw.accounts.items raw.permissions.items raw.securities.items raw.last_trades.items
 
--- The database was open, the reads changed nothing, and the raw rows are all rows of CHARGE,
--- COMMISSION_RATE, TAXRATE and CUSTOMER_TAXRATE (`ShowsAllRows`). The clause on a table is vacuous
--- if the database does not define it as a desk does.
+-- `ShowsFourTables` of the raw rows of CHARGE, COMMISSION_RATE, TAXRATE and CUSTOMER_TAXRATE.
 abbrev pub ShowsTermsTables : TermsRows → State → State → Type 0
 ShowsTermsTables raw = ShowsFourTables Charges Bands TaxRates CustomerTaxes raw.charges.items raw.bands.items raw.tax_rates.items raw.customer_taxes.items
 
--- The database was open, the reads changed nothing, and the raw rows are all rows of TRADE,
--- TRADE_HISTORY, TRADE_REQUEST and HOLDING (`ShowsAllRows`). The clause on a table is vacuous if
--- the database does not define it as a desk does.
+-- `ShowsFourTables` of the raw rows of TRADE, TRADE_HISTORY, TRADE_REQUEST and HOLDING.
 abbrev pub ShowsTradeTables : TradeRows → State → State → Type 0
 ShowsTradeTables raw = ShowsFourTables Trades TradeHistory Requests Holdings raw.trades.items raw.history.items raw.requests.items raw.holdings.items
 
--- The database was open, the reads changed nothing, and the raw rows are all rows of
--- HOLDING_SUMMARY, HOLDING_HISTORY, SETTLEMENT and CASH_TRANSACTION (`ShowsAllRows`). The clause on
--- a table is vacuous if the database does not define it as a desk does.
+-- `ShowsFourTables` of the raw rows of HOLDING_SUMMARY, HOLDING_HISTORY, SETTLEMENT and
+-- CASH_TRANSACTION.
 abbrev pub ShowsBookingTables : BookingRows → State → State → Type 0
 ShowsBookingTables raw = ShowsFourTables Summaries HoldingHistory Settlements CashRows raw.summaries.items raw.holding_history.items raw.settlements.items raw.cash.items
 
 -- The reads changed nothing. The lists `a` and `b` are all rows of CASH_MOVE and SETTLE_RULE, or
--- none of a table that the schema `desk` does not have (`ShowsRowsIfInSchema`). The clause on a
--- table is vacuous if the database does not define it as a desk does.
+-- none of a table that the schema `desk` does not have (`ShowsRowsIfInSchema`).
 pub record ShowsTwoLaterTables (desk : Schema) (a b : List Row) (old new : State) : Type 0 where
   pub same : new.now ≡ old.now
   pub moves : ShowsRowsIfInSchema desk CashMoves a old.now
   pub rule : ShowsRowsIfInSchema desk SettleRules b old.now
 
--- The reads changed nothing, and the raw rows are all rows of CASH_MOVE and SETTLE_RULE, or none of
--- a table that the schema `desk` does not have (`ShowsTwoLaterTables`). The clause on a table is
--- vacuous if the database does not define it as a desk does.
+-- `ShowsTwoLaterTables` of the raw rows of CASH_MOVE and SETTLE_RULE.
 abbrev pub ShowsLaterTables : Schema → LaterRows → State → State → Type 0
 ShowsLaterTables desk raw = ShowsTwoLaterTables desk raw.moves.items raw.rule.items
 
@@ -93,9 +83,8 @@ raw_rows_of_table kept raw CashRows = raw.bookings.cash.items
 raw_rows_of_table kept raw CashMoves = raw.later.moves.items
 raw_rows_of_table kept raw SettleRules = raw.later.rule.items
 
--- The database was open, and its contents are unchanged. The raw rows are all rows of each table of
--- the schema `desk`, and none of other tables (`ShowsRowsIfInSchema`). The clause on a table is
--- vacuous if the database does not define it as a desk does.
+-- The database was open, and the reads changed nothing. The raw rows are all rows of each table of
+-- the schema `desk`, and none of other tables (`ShowsRowsIfInSchema`).
 pub record ShowsAllTables (desk : Schema) (kept : List Row) (raw : RawSheets) (a b : State) : Type 0 where
   pub stays : IsUnchangedAndOpen a b
   pub shown : (w : DeskTable) → ShowsRowsIfInSchema desk w (raw_rows_of_table kept raw w) a.now

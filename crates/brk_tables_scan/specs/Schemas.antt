@@ -27,7 +27,7 @@ pub record TableAndColumnNames : Type 0 where
   pub name : List ℕ
   pub columns : List (List ℕ)
 
--- The SQL name of the table `table` and the names of its columns, in order.
+-- Those of the table `table`.
 abbrev pub table_and_column_names : Table → TableAndColumnNames
 table_and_column_names table = record { name = table.name; columns = map (λ c. c.name) table.columns }
 
@@ -59,8 +59,7 @@ LacksTablesOfLaterSchemas desk schema = AllByRecursion (λ w. table_named schema
 abbrev pub IsDeskRowOfSchema : Schema → Row → Type 0
 IsDeskRowOfSchema desk row = (last : Value) × (row ≡ natural_as_value 1 ∷ natural_as_value desk.number ∷ last ∷ [])
 
--- The rows are exactly one row, with the three values of a row of DESK in the schema `desk`: the id
--- 1, the number of the schema, and any value as the stamp.
+-- The rows are exactly one row, of DESK in the schema `desk` (`IsDeskRowOfSchema`).
 abbrev pub IsOneDeskRowOfSchema : Schema → List Row → Type 0
 IsOneDeskRowOfSchema desk rows = (last : Value) × (rows ≡ (natural_as_value 1 ∷ natural_as_value desk.number ∷ last ∷ []) ∷ [])
 
@@ -100,15 +99,11 @@ pub record HasDeskDefinitions (desk : Schema) (db : Database) : Type 0 where
       → HasDistinctRowids (db.trees tree)
 
 -- If the database has each table of the schema `desk`, by its name and with exactly its column
--- names, in order, these tables are defined as a desk defines them, and they and the database
--- satisfy the other clauses of `HasDeskDefinitions`. Vacuous if one of these tables is missing or
--- has other column names.
+-- names, in order, it satisfies `HasDeskDefinitions`.
 abbrev pub TablesWithSchemaNamesAreDeskTables : Schema → Database → Type 0
 TablesWithSchemaNamesAreDeskTables desk db = HasTablesOfSchema desk db.schema → HasDeskDefinitions desk db
 
--- For each schema of a desk: if the database has each of its tables, by its name and with exactly
--- its column names, in order, these tables are defined as a desk defines them
--- (`HasDeskDefinitions`). This is the premise on a database that another program may have created;
--- an empty database satisfies it.
+-- The premise on a database that another program may have created: `TablesWithSchemaNamesAreDeskTables`
+-- for each schema of a desk. An empty database satisfies it.
 abbrev pub TablesWithDeskNamesAreDeskTables : Database → Type 0
 TablesWithDeskNamesAreDeskTables db = (schema : known.Schema) → TablesWithSchemaNamesAreDeskTables (abstract_schema schema) db

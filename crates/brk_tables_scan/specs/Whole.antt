@@ -20,11 +20,7 @@ use Rattle.brk_tables_schema.specs.Made.{HasDeskTablesInSchema, IsTableOfSchema}
 use Rattle.brk_tables_scan.specs.KeptKeys.{keys_of_kept_rows, tables_with_whole_kept_rows}
 use Rattle.brk_tables_scan.specs.Schemas.{HasDistinctRowids}
 
--- The list `rows` has exactly the rows at the tree `tree` of the table `w`, each as often as it
--- occurs there. If the table contains a list of records (`TreeHoldsRecords`), `rows` are their
--- encodings, in the order of the key, ascending. Conversely, if `rows` are the encodings of a list
--- of records, in order, the rowids are distinct integers, and the database satisfies `IsDatabase`,
--- the table contains this list.
+-- The list `rows` has the rows at the tree `tree` of the table `w`.
 pub record AreTableRows (w : DeskTable) (rows : List Row) (db : Database) (tree : ℕ) : Type 0 where
   -- The rows are exactly the rows of the tree, each as often as it occurs there.
   pub all : IsPermutation (map (cells_in_column_order (table_definition_at_tree w tree)) (db.trees tree)) rows
@@ -36,32 +32,24 @@ pub record AreTableRows (w : DeskTable) (rows : List Row) (db : Database) (tree 
   pub table_holds_records : (xs : List (RecordOfTable w)) → IsDatabase db → HasDistinctRowids (db.trees tree) → map (encoded_row w) xs ≡ rows
       → TreeHoldsRecords (table_definition_at_tree w tree) (encoded_row w) (ordering_by_primary_key w) xs (db.trees tree)
 
--- The list `rows` has exactly the rows of the table `w`, each as often as it occurs there. If the
--- table contains a list of records (`TreeHoldsRecords`), `rows` are their encodings, in the order
--- of the key, ascending (`AreTableRows`). Vacuous if no table of the database is defined as a desk
--- defines `w`.
+-- The list `rows` has the rows of the table `w` (`AreTableRows`). Vacuous if no table of the
+-- database is defined as a desk defines `w`.
 abbrev pub ShowsAllRows : DeskTable → List Row → Database → Type 0
 ShowsAllRows w rows db = (at tree : ℕ) → IsTableAt db.schema (table_definition_at_tree w tree) at → AreTableRows w rows db tree
 
--- Under the disk assumption and within a transaction: if the call succeeds, the database was open
--- and is unchanged, and the call returns all rows of the table `w` (`ShowsAllRows`, which is
--- vacuous if no table of the database is defined as a desk defines `w`). The call is a step of its
--- connection (`IsConnectionStep`), so under the disk assumption it commits nothing, and leaves an
--- open transaction open if it succeeds.
+-- A step of the connection (`IsConnectionStep`): if the call succeeds, the database was open and is
+-- unchanged, and the call returns all rows of the table `w` (`ShowsAllRows`).
 abbrev pub ReadsAllRows : {S E : Type 0} → Ghosts S → Transaction S → Transaction S → Result (Vec Row) E → DeskTable → Type 0
 ReadsAllRows g old new result w = IsConnectionStep g old new result (λ rows a b. IsTrue a.is_open × (b.now ≡ a.now) × ShowsAllRows w rows.items a.now)
 
 -- If the schema `desk` has the table `w`, the list `rows` is all rows of this table
--- (`ShowsAllRows`, which is vacuous if the database does not define the table as a desk does).
--- Otherwise the list is empty.
+-- (`ShowsAllRows`). Otherwise the list is empty.
 abbrev pub ShowsRowsIfInSchema : Schema → DeskTable → List Row → Database → Type 0
 ShowsRowsIfInSchema desk w rows db = (IsTableOfSchema desk w → ShowsAllRows w rows db) × (schema_has_table desk w ≡ false → rows ≡ [])
 
--- Under the disk assumption and within a transaction: if the call succeeds, the database is
--- unchanged, and the call returns all rows of the table `w` (`ShowsAllRows`, which is vacuous if no
--- table of the database is defined as a desk defines `w`), or none if the schema `desk` does not
--- have this table. The call is a step of its connection (`IsConnectionStep`), so under the disk
--- assumption it commits nothing, and leaves an open transaction open if it succeeds.
+-- A step of the connection (`IsConnectionStep`): if the call succeeds, the database is unchanged,
+-- and the call returns all rows of the table `w`, or none if the schema `desk` does not have this
+-- table (`ShowsRowsIfInSchema`).
 abbrev pub ReadsRowsIfInSchema : {S E : Type 0} → Ghosts S → Transaction S → Transaction S → Result (Vec Row) E → Schema → DeskTable → Type 0
 ReadsRowsIfInSchema g old new result desk w = IsConnectionStep g old new result (λ rows a b. (b.now ≡ a.now) × ShowsRowsIfInSchema desk w rows.items a.now)
 

@@ -5,9 +5,7 @@
 //! exactly one row with the number of the schema, or SETTLE_RULE two rows or more,
 //! `are_well_formed` of the decoder is false, and there are no typed rows of this table.
 
-ghost use Rattle.std.specs.Prelude.{◌≡◌, Err, IfErr, IfOk, OnErr};
-ghost use Rattle.brk_money.specs.declared.fault.Fault.TheVariants.{Memory, Store};
-ghost use Rattle.brk_model.specs.Run.{IsCallFault};
+ghost use Rattle.std.specs.Prelude.{◌≡◌, IfOk};
 ghost use Rattle.brk_trade_rows.specs.Schemas.{abstract_schema};
 ghost use Rattle.brk_tables_sql.specs.Model.{IsConnectionStep};
 ghost use Rattle.brk_tables_scan.specs.Raw.{ShowsListingTables, ShowsTermsTables, ShowsTradeTables, ShowsBookingTables, ShowsLaterTables};
@@ -26,7 +24,7 @@ use crate::rows::{
     settle_rule_rows_in_schema, settlement_rows, tax_rate_rows, trade_history_rows,
     trade_request_rows, trade_rows,
 };
-use brk_money::{Day, Fault, Stamp};
+use brk_money::{CallFault, Day, Stamp, StoreFailed};
 use brk_ref::{
     AccountRow, Band, BrokerRow, CashRow, Charge, Customer, CustomerTax, HistoryRow, HoldingRow,
     Key, LastTrade, LotChange, OldCashRow, Permission, RequestRow, Security, SettlementRow,
@@ -34,7 +32,7 @@ use brk_ref::{
 };
 use brk_trade_rows::{Schema, Sheets};
 use sqlite::{Alter, Row, Transaction};
-use std::alloc::Global;
+use std::alloc::{AllocError, Global};
 
 /// The raw rows of DESK, KEPT, BROKER and CUSTOMER, of KEPT the keys.
 #[derive(Drop)]
@@ -49,10 +47,9 @@ fn read_owner_rows<S: Alter>(
     tx: &mut Transaction<'_, S>,
     alloc: Global,
     decoder: &mut Decoder,
-) -> Result<OwnerRows, Fault>
+) -> Result<OwnerRows, CallFault>
     ensures same_reference { tx.new.conn.ghost_name ≡ tx.old.conn.ghost_name }
     ensures step { IsConnectionStep S.Store tx.old tx.new result (λ raw. ReadsOwnerTables decoder.old.are_well_formed decoder.new.are_well_formed raw) }
-    ensures fault { IfErr result IsCallFault }
 {
     let desk = desk_rows(tx)?;
     let kept = decoder.decode_kept_keys(alloc, kept_rows(tx)?)?;
@@ -80,10 +77,9 @@ fn decode_owner_rows(
     schema: Schema,
     raw: OwnerRows,
     decoder: &mut Decoder,
-) -> Result<OwnerSheets, Fault>
+) -> Result<OwnerSheets, AllocError>
     ensures decoded { IfOk result (λ sheets. ContinuesDecoding decoder.old.are_well_formed decoder.new.are_well_formed
         (are_owner_rows_well_formed (abstract_schema schema) raw) (DecodesOwnerTables (abstract_schema schema) sheets raw)) }
-    ensures fault { OnErr result (result ≡ Err Memory) }
 {
     let last = decoder.decode_last_stamp(schema, raw.desk)?;
     let brokers = decoder.decode(alloc, raw.brokers)?;
@@ -105,10 +101,9 @@ pub struct ListingRows {
     last_trades: Vec<Row>,
 }
 
-fn read_listing_rows<S: Alter>(tx: &mut Transaction<'_, S>) -> Result<ListingRows, Fault>
+fn read_listing_rows<S: Alter>(tx: &mut Transaction<'_, S>) -> Result<ListingRows, StoreFailed>
     ensures same_reference { tx.new.conn.ghost_name ≡ tx.old.conn.ghost_name }
     ensures step { IsConnectionStep S.Store tx.old tx.new result (λ raw. ShowsListingTables raw) }
-    ensures fault { OnErr result (result ≡ Err Store) }
 {
     let accounts = account_rows(tx)?;
     let permissions = permission_rows(tx)?;
@@ -135,10 +130,9 @@ fn decode_listing_rows(
     alloc: Global,
     raw: ListingRows,
     decoder: &mut Decoder,
-) -> Result<ListingSheets, Fault>
+) -> Result<ListingSheets, AllocError>
     ensures decoded { IfOk result (λ sheets. ContinuesDecoding decoder.old.are_well_formed decoder.new.are_well_formed
         (are_listing_rows_well_formed raw) (DecodesListingTables sheets raw)) }
-    ensures fault { OnErr result (result ≡ Err Memory) }
 {
     let accounts = decoder.decode(alloc, raw.accounts)?;
     let permissions = decoder.decode(alloc, raw.permissions)?;
@@ -161,10 +155,9 @@ pub struct TermsRows {
     customer_taxes: Vec<Row>,
 }
 
-fn read_terms_rows<S: Alter>(tx: &mut Transaction<'_, S>) -> Result<TermsRows, Fault>
+fn read_terms_rows<S: Alter>(tx: &mut Transaction<'_, S>) -> Result<TermsRows, StoreFailed>
     ensures same_reference { tx.new.conn.ghost_name ≡ tx.old.conn.ghost_name }
     ensures step { IsConnectionStep S.Store tx.old tx.new result (λ raw. ShowsTermsTables raw) }
-    ensures fault { OnErr result (result ≡ Err Store) }
 {
     let charges = charge_rows(tx)?;
     let bands = commission_rate_rows(tx)?;
@@ -191,10 +184,9 @@ fn decode_terms_rows(
     alloc: Global,
     raw: TermsRows,
     decoder: &mut Decoder,
-) -> Result<TermsSheets, Fault>
+) -> Result<TermsSheets, AllocError>
     ensures decoded { IfOk result (λ sheets. ContinuesDecoding decoder.old.are_well_formed decoder.new.are_well_formed
         (are_terms_rows_well_formed raw) (DecodesTermsTables sheets raw)) }
-    ensures fault { OnErr result (result ≡ Err Memory) }
 {
     let charges = decoder.decode(alloc, raw.charges)?;
     let bands = decoder.decode(alloc, raw.bands)?;
@@ -217,10 +209,9 @@ pub struct TradeRows {
     holdings: Vec<Row>,
 }
 
-fn read_trade_rows<S: Alter>(tx: &mut Transaction<'_, S>) -> Result<TradeRows, Fault>
+fn read_trade_rows<S: Alter>(tx: &mut Transaction<'_, S>) -> Result<TradeRows, StoreFailed>
     ensures same_reference { tx.new.conn.ghost_name ≡ tx.old.conn.ghost_name }
     ensures step { IsConnectionStep S.Store tx.old tx.new result (λ raw. ShowsTradeTables raw) }
-    ensures fault { OnErr result (result ≡ Err Store) }
 {
     let trades = trade_rows(tx)?;
     let history = trade_history_rows(tx)?;
@@ -247,10 +238,9 @@ fn decode_trade_rows(
     alloc: Global,
     raw: TradeRows,
     decoder: &mut Decoder,
-) -> Result<TradeSheets, Fault>
+) -> Result<TradeSheets, AllocError>
     ensures decoded { IfOk result (λ sheets. ContinuesDecoding decoder.old.are_well_formed decoder.new.are_well_formed
         (are_trade_rows_well_formed raw) (DecodesTradeTables sheets raw)) }
-    ensures fault { OnErr result (result ≡ Err Memory) }
 {
     let trades = decoder.decode(alloc, raw.trades)?;
     let history = decoder.decode(alloc, raw.history)?;
@@ -273,10 +263,9 @@ pub struct BookingRows {
     cash: Vec<Row>,
 }
 
-fn read_booking_rows<S: Alter>(tx: &mut Transaction<'_, S>) -> Result<BookingRows, Fault>
+fn read_booking_rows<S: Alter>(tx: &mut Transaction<'_, S>) -> Result<BookingRows, StoreFailed>
     ensures same_reference { tx.new.conn.ghost_name ≡ tx.old.conn.ghost_name }
     ensures step { IsConnectionStep S.Store tx.old tx.new result (λ raw. ShowsBookingTables raw) }
-    ensures fault { OnErr result (result ≡ Err Store) }
 {
     let summaries = holding_summary_rows(tx)?;
     let holding_history = holding_history_rows(tx)?;
@@ -303,10 +292,9 @@ fn decode_booking_rows(
     alloc: Global,
     raw: BookingRows,
     decoder: &mut Decoder,
-) -> Result<BookingSheets, Fault>
+) -> Result<BookingSheets, AllocError>
     ensures decoded { IfOk result (λ sheets. ContinuesDecoding decoder.old.are_well_formed decoder.new.are_well_formed
         (are_booking_rows_well_formed raw) (DecodesBookingTables sheets raw)) }
-    ensures fault { OnErr result (result ≡ Err Memory) }
 {
     let summaries = decoder.decode(alloc, raw.summaries)?;
     let holding_history = decoder.decode(alloc, raw.holding_history)?;
@@ -331,10 +319,9 @@ fn read_later_rows<S: Alter>(
     tx: &mut Transaction<'_, S>,
     alloc: Global,
     schema: Schema,
-) -> Result<LaterRows, Fault>
+) -> Result<LaterRows, StoreFailed>
     ensures same_reference { tx.new.conn.ghost_name ≡ tx.old.conn.ghost_name }
     ensures step { IsConnectionStep S.Store tx.old tx.new result (λ raw. ShowsLaterTables (abstract_schema schema) raw) }
-    ensures fault { OnErr result (result ≡ Err Store) }
 {
     let moves = cash_move_rows_in_schema(tx, alloc, schema)?;
     let rule = settle_rule_rows_in_schema(tx, alloc, schema)?;
@@ -352,10 +339,9 @@ fn decode_later_rows(
     alloc: Global,
     raw: LaterRows,
     decoder: &mut Decoder,
-) -> Result<LaterSheets, Fault>
+) -> Result<LaterSheets, AllocError>
     ensures decoded { IfOk result (λ sheets. ContinuesDecoding decoder.old.are_well_formed decoder.new.are_well_formed
         (are_later_rows_well_formed raw) (DecodesLaterTables sheets raw)) }
-    ensures fault { OnErr result (result ≡ Err Memory) }
 {
     let moves = decoder.decode(alloc, raw.moves)?;
     let rule = decoder.decode_rule(raw.rule)?;
@@ -378,11 +364,10 @@ fn read_raw_sheets<S: Alter>(
     alloc: Global,
     schema: Schema,
     decoder: &mut Decoder,
-) -> Result<RawSheets, Fault>
+) -> Result<RawSheets, CallFault>
     ensures same_reference { tx.new.conn.ghost_name ≡ tx.old.conn.ghost_name }
     ensures step { IsConnectionStep S.Store tx.old tx.new result
         (λ raw. ReadsRawSheets (abstract_schema schema) decoder.old.are_well_formed decoder.new.are_well_formed raw) }
-    ensures fault { IfErr result IsCallFault }
 {
     let owners = read_owner_rows(tx, alloc, decoder)?;
     let listings = read_listing_rows(tx)?;
@@ -405,11 +390,10 @@ fn decode_raw_sheets(
     schema: Schema,
     raw: RawSheets,
     decoder: &mut Decoder,
-) -> Result<Sheets, Fault>
+) -> Result<Sheets, AllocError>
     ensures decoded { IfOk result (λ sheets. ContinuesDecoding decoder.old.are_well_formed decoder.new.are_well_formed
         (are_raw_rows_well_formed (abstract_schema schema) raw) (DecodesRows (abstract_schema schema) sheets raw)) }
     ensures of_schema { IfOk result (λ sheets. sheets.schema ≡ schema) }
-    ensures fault { OnErr result (result ≡ Err Memory) }
 {
     let owners = decode_owner_rows(alloc, schema, raw.owners, decoder)?;
     let listings = decode_listing_rows(alloc, raw.listings, decoder)?;
@@ -451,12 +435,11 @@ pub(crate) fn read_all_tables<S: Alter>(
     alloc: Global,
     schema: Schema,
     decoder: &mut Decoder,
-) -> Result<Sheets, Fault>
+) -> Result<Sheets, CallFault>
     ensures same_reference { tx.new.conn.ghost_name ≡ tx.old.conn.ghost_name }
     ensures step { IsConnectionStep S.Store tx.old tx.new result
         (λ sheets. ReadsAndDecodesDeskTables (abstract_schema schema) decoder.old.are_well_formed decoder.new.are_well_formed sheets) }
     ensures of_schema { IfOk result (λ sheets. sheets.schema ≡ schema) }
-    ensures fault { IfErr result IsCallFault }
 {
     let raw = read_raw_sheets(tx, alloc, schema, decoder)?;
     let sheets = decode_raw_sheets(alloc, schema, raw, decoder)?;

@@ -1,7 +1,6 @@
 //! The check of a desk's tables by their names and columns.
 
-ghost use Rattle.std.specs.Prelude.{◌≡◌, ◌↔◌, ◌≤◌, length, map, Err, OnErr, IsTrue};
-ghost use Rattle.brk_money.specs.declared.fault.Fault.TheVariants.{Store};
+ghost use Rattle.std.specs.Prelude.{◌≡◌, ◌↔◌, ◌≤◌, length, map, IsTrue};
 ghost use Rattle.brk_tables_sql.specs.Model.{IsConnectionStep};
 ghost use Rattle.brk_tables_scan.specs.Headings.{IsHeadingCheckOutcome, heading_of_borrowed_texts, heading_of_table};
 ghost use Rattle.brk_trade_rows.specs.Schemas.{abstract_schema};
@@ -10,7 +9,7 @@ ghost use Rattle.brk_tables_scan.specs.Schemas.{HasTablesOfSchema, LacksTablesOf
 
 use crate::column_names::COLUMNS_OF_ALL_TABLES;
 use crate::presence::has_table_names;
-use brk_money::Fault;
+use brk_money::StoreFailed;
 use brk_tables_schema::calls::statement_has_columns;
 use brk_trade_rows::Schema;
 use sqlite::{Alter, Transaction};
@@ -19,11 +18,10 @@ use sqlite::{Alter, Transaction};
 fn headings_match<S: Alter>(
     tx: &mut Transaction<'_, S>,
     headings: &[(&str, &[&str])],
-) -> Result<bool, Fault>
+) -> Result<bool, StoreFailed>
     ensures same_reference { tx.new.conn.ghost_name ≡ tx.old.conn.ghost_name }
     ensures step { IsConnectionStep S.Store tx.old tx.new result (λ has a b. (b.now ≡ a.now)
         × IsHeadingCheckOutcome (map heading_of_borrowed_texts headings.now) has a.now.schema) }
-    ensures fault { OnErr result (result ≡ Err Store) }
 {
     for (text, names) in headings {
         if !statement_has_columns(tx, text, names)? {
@@ -45,11 +43,13 @@ fn table_count(schema: Schema) -> usize
     }
 }
 
-fn tables_have_columns<S: Alter>(tx: &mut Transaction<'_, S>, schema: Schema) -> Result<bool, Fault>
+fn tables_have_columns<S: Alter>(
+    tx: &mut Transaction<'_, S>,
+    schema: Schema,
+) -> Result<bool, StoreFailed>
     ensures same_reference { tx.new.conn.ghost_name ≡ tx.old.conn.ghost_name }
     ensures step { IsConnectionStep S.Store tx.old tx.new result (λ has a b. (b.now ≡ a.now)
         × IsHeadingCheckOutcome (map heading_of_table (tables_in_schema (abstract_schema schema))) has a.now.schema) }
-    ensures fault { OnErr result (result ≡ Err Store) }
 {
     headings_match(tx, &COLUMNS_OF_ALL_TABLES[..table_count(schema)])
 }
@@ -57,11 +57,13 @@ fn tables_have_columns<S: Alter>(tx: &mut Transaction<'_, S>, schema: Schema) ->
 /// Returns true if each table of `schema` exists by name, with exactly its column names, in order,
 /// and no table has a name that a later schema adds. Other properties of the tables are not
 /// checked.
-pub fn tables_match<S: Alter>(tx: &mut Transaction<'_, S>, schema: Schema) -> Result<bool, Fault>
+pub fn tables_match<S: Alter>(
+    tx: &mut Transaction<'_, S>,
+    schema: Schema,
+) -> Result<bool, StoreFailed>
     ensures same_reference { tx.new.conn.ghost_name ≡ tx.old.conn.ghost_name }
     ensures step { IsConnectionStep S.Store tx.old tx.new result (λ has a b. IsTrue a.is_open × (b.now ≡ a.now)
         × (IsTrue has ↔ HasTablesOfSchema (abstract_schema schema) a.now.schema × LacksTablesOfLaterSchemas (abstract_schema schema) a.now.schema)) }
-    ensures fault { OnErr result (result ≡ Err Store) }
 {
     if !has_table_names(tx, schema)? {
         return Ok(false);

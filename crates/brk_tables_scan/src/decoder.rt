@@ -1,8 +1,7 @@
 //! The decoding of the rows of one table after the other, which continues after a malformed row.
 
-ghost use Rattle.std.specs.Prelude.{◌≡◌, Err, IfOk, OnErr, false, map, true};
+ghost use Rattle.std.specs.Prelude.{◌≡◌, Err, IfOk, false, map, true};
 ghost use Rattle.std.specs.List.{list_all};
-ghost use Rattle.brk_money.specs.declared.fault.Fault.TheVariants.{Memory};
 ghost use Rattle.brk_trade_rows.specs.Schemas.{abstract_schema};
 ghost use Rattle.brk_tables_schema.specs.Cells.{desk_row_cells, rule_cells};
 ghost use Rattle.brk_tables_schema.specs.Desk.{desk_rows, rule_rows};
@@ -11,7 +10,7 @@ ghost use Rattle.brk_tables_schema.specs.Formed.{has_at_most_one_valid_rule_row,
 ghost use Rattle.brk_tables_scan.specs.Decoded.{ContinuesDecoding};
 ghost use Rattle.brk_tables_scan.specs.KeptKeys.{AreKeysOfRawRows, IsKeyOfRawRow};
 
-use brk_money::{Day, Fault, Stamp};
+use brk_money::{Day, Stamp};
 use brk_ref::{Kept, Key};
 use brk_tables_schema::DecodeError;
 use brk_tables_schema::desk_row::last_stamp_in_desk_rows;
@@ -19,7 +18,7 @@ use brk_tables_schema::record::Record;
 use brk_tables_schema::rule_row::start_in_rule_rows;
 use brk_trade_rows::Schema;
 use sqlite::Row;
-use std::alloc::Global;
+use std::alloc::{AllocError, Global};
 
 // Drops each raw row once it is decoded, so that the rows are not in memory twice.
 fn decode_owned_rows<R: Record>(alloc: Global, rows: Vec<Row>) -> Result<Vec<R>, DecodeError>
@@ -75,11 +74,10 @@ impl Decoder {
         &mut self,
         alloc: Global,
         rows: Vec<Row>,
-    ) -> Result<Vec<R>, Fault>
+    ) -> Result<Vec<R>, AllocError>
         ensures decoding { IfOk result (λ all. ContinuesDecoding self.old.are_well_formed self.new.are_well_formed
             (list_all (passes_all_cell_checks R.forms) rows.items)
             (map R.cells all.items ≡ rows.items)) }
-        ensures fault { OnErr result (result ≡ Err Memory) }
     {
         match decode_owned_rows(alloc, rows) {
             Ok(all) => Ok(all),
@@ -87,7 +85,7 @@ impl Decoder {
                 self.are_well_formed = false;
                 Ok(Vec::new(alloc))
             }
-            Err(DecodeError::Memory) => Err(Fault::Memory),
+            Err(DecodeError::Memory) => Err(AllocError),
         }
     }
 
@@ -96,10 +94,9 @@ impl Decoder {
         &mut self,
         alloc: Global,
         rows: Vec<Row>,
-    ) -> Result<Vec<Key>, Fault>
+    ) -> Result<Vec<Key>, AllocError>
         ensures decoding { IfOk result (λ all. ContinuesDecoding self.old.are_well_formed self.new.are_well_formed
             (list_all (passes_all_cell_checks kept_column_cell_checks) rows.items) (AreKeysOfRawRows all.items rows.items)) }
-        ensures fault { OnErr result (result ≡ Err Memory) }
     {
         match decode_kept_keys(alloc, rows) {
             Ok(all) => Ok(all),
@@ -107,7 +104,7 @@ impl Decoder {
                 self.are_well_formed = false;
                 Ok(Vec::new(alloc))
             }
-            Err(DecodeError::Memory) => Err(Fault::Memory),
+            Err(DecodeError::Memory) => Err(AllocError),
         }
     }
 
@@ -115,11 +112,10 @@ impl Decoder {
         &mut self,
         schema: Schema,
         rows: Vec<Row>,
-    ) -> Result<Option<Stamp>, Fault>
+    ) -> Result<Option<Stamp>, AllocError>
         ensures decoding { IfOk result (λ last. ContinuesDecoding self.old.are_well_formed self.new.are_well_formed
             (has_one_valid_desk_row (abstract_schema schema) rows.items)
             (map desk_row_cells (desk_rows (abstract_schema schema) last) ≡ rows.items)) }
-        ensures fault { OnErr result (result ≡ Err Memory) }
     {
         match last_stamp_in_desk_rows(schema, &rows) {
             Ok(last) => Ok(last),
@@ -127,15 +123,14 @@ impl Decoder {
                 self.are_well_formed = false;
                 Ok(None)
             }
-            Err(DecodeError::Memory) => Err(Fault::Memory),
+            Err(DecodeError::Memory) => Err(AllocError),
         }
     }
 
-    pub(crate) fn decode_rule(&mut self, rows: Vec<Row>) -> Result<Option<Day>, Fault>
+    pub(crate) fn decode_rule(&mut self, rows: Vec<Row>) -> Result<Option<Day>, AllocError>
         ensures decoding { IfOk result (λ day. ContinuesDecoding self.old.are_well_formed self.new.are_well_formed
             (has_at_most_one_valid_rule_row rows.items)
             (map rule_cells (rule_rows day) ≡ rows.items)) }
-        ensures fault { OnErr result (result ≡ Err Memory) }
     {
         match start_in_rule_rows(&rows) {
             Ok(day) => Ok(day),
@@ -143,7 +138,7 @@ impl Decoder {
                 self.are_well_formed = false;
                 Ok(None)
             }
-            Err(DecodeError::Memory) => Err(Fault::Memory),
+            Err(DecodeError::Memory) => Err(AllocError),
         }
     }
 }

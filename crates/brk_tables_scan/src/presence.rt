@@ -1,15 +1,14 @@
 //! Look-ups of a desk's tables by name, in which upper and lower case of ASCII letters are equal. A
 //! table of this name may have any columns.
 
-ghost use Rattle.std.specs.Prelude.{◌≡◌, ◌&&◌, Err, OnErr, IsTrue, not};
+ghost use Rattle.std.specs.Prelude.{◌≡◌, ◌&&◌, IsTrue, not};
 ghost use Rattle.std.specs.List.{list_all, list_any};
-ghost use Rattle.brk_money.specs.declared.fault.Fault.TheVariants.{Store};
 ghost use Rattle.brk_trade_rows.specs.Schemas.{abstract_schema};
 ghost use Rattle.brk_tables_sql.specs.Model.{IsConnectionStep};
 ghost use Rattle.brk_tables_scan.specs.Present.{has_table_of_desk, has_exact_table_names, has_table_named};
 ghost use Rattle.brk_tables_schema.specs.Texts.{abstract_table};
 
-use brk_money::Fault;
+use brk_money::StoreFailed;
 use brk_tables_schema::calls::statement_compiles;
 use brk_tables_schema::table::{
     ADDED_AFTER_FIRST, ADDED_AFTER_SECOND, TABLES_OF_FIRST_SCHEMA, TABLES_OF_SECOND_SCHEMA,
@@ -18,20 +17,21 @@ use brk_tables_schema::table::{
 use brk_trade_rows::Schema;
 use sqlite::{Alter, Transaction};
 
-fn table_exists<S: Alter>(tx: &mut Transaction<'_, S>, table: Table) -> Result<bool, Fault>
+fn table_exists<S: Alter>(tx: &mut Transaction<'_, S>, table: Table) -> Result<bool, StoreFailed>
     ensures same_reference { tx.new.conn.ghost_name ≡ tx.old.conn.ghost_name }
     ensures step { IsConnectionStep S.Store tx.old tx.new result (λ has a b. IsTrue a.is_open × (b.now ≡ a.now)
         × (has ≡ has_table_named a.now.schema (abstract_table table))) }
-    ensures fault { OnErr result (result ≡ Err Store) }
 {
     statement_compiles(tx, table.existence_probe_text())
 }
 
-fn has_any_of_tables<S: Alter>(tx: &mut Transaction<'_, S>, tables: &[Table]) -> Result<bool, Fault>
+fn has_any_of_tables<S: Alter>(
+    tx: &mut Transaction<'_, S>,
+    tables: &[Table],
+) -> Result<bool, StoreFailed>
     ensures same_reference { tx.new.conn.ghost_name ≡ tx.old.conn.ghost_name }
     ensures step { IsConnectionStep S.Store tx.old tx.new result (λ has a b. (b.now ≡ a.now)
         × (has ≡ list_any (λ table. has_table_named a.now.schema (abstract_table table)) tables.now)) }
-    ensures fault { OnErr result (result ≡ Err Store) }
 {
     for table in tables {
         if table_exists(tx, *table)? {
@@ -44,11 +44,10 @@ fn has_any_of_tables<S: Alter>(tx: &mut Transaction<'_, S>, tables: &[Table]) ->
 fn has_each_of_tables<S: Alter>(
     tx: &mut Transaction<'_, S>,
     tables: &[Table],
-) -> Result<bool, Fault>
+) -> Result<bool, StoreFailed>
     ensures same_reference { tx.new.conn.ghost_name ≡ tx.old.conn.ghost_name }
     ensures step { IsConnectionStep S.Store tx.old tx.new result (λ has a b. (b.now ≡ a.now)
         × (has ≡ list_all (λ table. has_table_named a.now.schema (abstract_table table)) tables.now)) }
-    ensures fault { OnErr result (result ≡ Err Store) }
 {
     for table in tables {
         if !table_exists(tx, *table)? {
@@ -59,10 +58,9 @@ fn has_each_of_tables<S: Alter>(
 }
 
 /// Returns true if the database has a table with the name of some table of a desk.
-pub fn has_some_desk_table<S: Alter>(tx: &mut Transaction<'_, S>) -> Result<bool, Fault>
+pub fn has_some_desk_table<S: Alter>(tx: &mut Transaction<'_, S>) -> Result<bool, StoreFailed>
     ensures same_reference { tx.new.conn.ghost_name ≡ tx.old.conn.ghost_name }
     ensures step { IsConnectionStep S.Store tx.old tx.new result (λ has a b. (b.now ≡ a.now) × (has ≡ has_table_of_desk a.now.schema)) }
-    ensures fault { OnErr result (result ≡ Err Store) }
 {
     has_any_of_tables(tx, &TABLES_OF_THIRD_SCHEMA)
 }
@@ -71,13 +69,12 @@ fn presence_matches<S: Alter>(
     tx: &mut Transaction<'_, S>,
     present: &[Table],
     absent: &[Table],
-) -> Result<bool, Fault>
+) -> Result<bool, StoreFailed>
     ensures same_reference { tx.new.conn.ghost_name ≡ tx.old.conn.ghost_name }
     ensures step { IsConnectionStep S.Store tx.old tx.new result (λ has a b. (b.now ≡ a.now)
         × (has
         ≡ (list_all (λ table. has_table_named a.now.schema (abstract_table table)) present.now
         && not (list_any (λ table. has_table_named a.now.schema (abstract_table table)) absent.now)))) }
-    ensures fault { OnErr result (result ≡ Err Store) }
 {
     if !has_each_of_tables(tx, present)? {
         return Ok(false);
@@ -85,11 +82,10 @@ fn presence_matches<S: Alter>(
     Ok(!has_any_of_tables(tx, absent)?)
 }
 
-fn names_match<S: Alter>(tx: &mut Transaction<'_, S>, schema: Schema) -> Result<bool, Fault>
+fn names_match<S: Alter>(tx: &mut Transaction<'_, S>, schema: Schema) -> Result<bool, StoreFailed>
     ensures same_reference { tx.new.conn.ghost_name ≡ tx.old.conn.ghost_name }
     ensures step { IsConnectionStep S.Store tx.old tx.new result (λ has a b. (b.now ≡ a.now)
         × (has ≡ has_exact_table_names (abstract_schema schema) a.now.schema)) }
-    ensures fault { OnErr result (result ≡ Err Store) }
 {
     match schema {
         Schema::First => presence_matches(tx, &TABLES_OF_FIRST_SCHEMA, &ADDED_AFTER_FIRST),
@@ -99,11 +95,13 @@ fn names_match<S: Alter>(tx: &mut Transaction<'_, S>, schema: Schema) -> Result<
 }
 
 /// Returns true if each table of `schema` exists, and none that only a later schema has.
-pub fn has_table_names<S: Alter>(tx: &mut Transaction<'_, S>, schema: Schema) -> Result<bool, Fault>
+pub fn has_table_names<S: Alter>(
+    tx: &mut Transaction<'_, S>,
+    schema: Schema,
+) -> Result<bool, StoreFailed>
     ensures same_reference { tx.new.conn.ghost_name ≡ tx.old.conn.ghost_name }
     ensures step { IsConnectionStep S.Store tx.old tx.new result (λ has a b. IsTrue a.is_open × (b.now ≡ a.now)
         × (has ≡ has_exact_table_names (abstract_schema schema) a.now.schema)) }
-    ensures fault { OnErr result (result ≡ Err Store) }
 {
     // The value is not needed: the look-up succeeds only if the database is open.
     let _there = table_exists(tx, Table::TheDesk)?;

@@ -3,24 +3,22 @@
 //! returned rows are specified only if the table is defined as a desk defines it, and their order
 //! only if they encode records with distinct keys (`AreTableRows`).
 
-ghost use Rattle.std.specs.Prelude.{◌≡◌, Err, OnErr};
-ghost use Rattle.brk_money.specs.declared.fault.Fault.TheVariants.{Store};
+ghost use Rattle.std.specs.Prelude.{◌≡◌};
 ghost use Rattle.brk_tables_schema.specs.Desk.{TheDesk, KeptRows, Brokers, Customers, Accounts, Permissions, Securities, LastTrades, Charges, Bands};
 ghost use Rattle.brk_tables_schema.specs.Desk.{TaxRates, CustomerTaxes, Trades, TradeHistory, Requests, Holdings, Summaries, HoldingHistory};
 ghost use Rattle.brk_tables_schema.specs.Desk.{Settlements, CashRows, CashMoves, SettleRules};
 ghost use Rattle.brk_trade_rows.specs.Schemas.{abstract_schema};
 ghost use Rattle.brk_tables_scan.specs.Whole.{ReadsRowsIfInSchema, ReadsAllRows};
 
-use brk_money::Fault;
+use brk_money::StoreFailed;
 use brk_tables_schema::calls::select_rows;
 use brk_trade_rows::Schema;
 use sqlite::{Alter, Row, Transaction};
 use std::alloc::Global;
 
-pub fn desk_rows<S: Alter>(tx: &mut Transaction<'_, S>) -> Result<Vec<Row>, Fault>
+pub fn desk_rows<S: Alter>(tx: &mut Transaction<'_, S>) -> Result<Vec<Row>, StoreFailed>
     ensures same_reference { tx.new.conn.ghost_name ≡ tx.old.conn.ghost_name }
     ensures step { ReadsAllRows S.Store tx.old tx.new result TheDesk }
-    ensures fault { OnErr result (result ≡ Err Store) }
 {
     select_rows(
         tx,
@@ -29,10 +27,9 @@ pub fn desk_rows<S: Alter>(tx: &mut Transaction<'_, S>) -> Result<Vec<Row>, Faul
     )
 }
 
-pub fn kept_rows<S: Alter>(tx: &mut Transaction<'_, S>) -> Result<Vec<Row>, Fault>
+pub fn kept_rows<S: Alter>(tx: &mut Transaction<'_, S>) -> Result<Vec<Row>, StoreFailed>
     ensures same_reference { tx.new.conn.ghost_name ≡ tx.old.conn.ghost_name }
     ensures step { ReadsAllRows S.Store tx.old tx.new result KeptRows }
-    ensures fault { OnErr result (result ≡ Err Store) }
 {
     select_rows(
         tx,
@@ -41,10 +38,9 @@ pub fn kept_rows<S: Alter>(tx: &mut Transaction<'_, S>) -> Result<Vec<Row>, Faul
     )
 }
 
-pub fn broker_rows<S: Alter>(tx: &mut Transaction<'_, S>) -> Result<Vec<Row>, Fault>
+pub fn broker_rows<S: Alter>(tx: &mut Transaction<'_, S>) -> Result<Vec<Row>, StoreFailed>
     ensures same_reference { tx.new.conn.ghost_name ≡ tx.old.conn.ghost_name }
     ensures step { ReadsAllRows S.Store tx.old tx.new result Brokers }
-    ensures fault { OnErr result (result ≡ Err Store) }
 {
     select_rows(
         tx,
@@ -53,10 +49,9 @@ pub fn broker_rows<S: Alter>(tx: &mut Transaction<'_, S>) -> Result<Vec<Row>, Fa
     )
 }
 
-pub fn customer_rows<S: Alter>(tx: &mut Transaction<'_, S>) -> Result<Vec<Row>, Fault>
+pub fn customer_rows<S: Alter>(tx: &mut Transaction<'_, S>) -> Result<Vec<Row>, StoreFailed>
     ensures same_reference { tx.new.conn.ghost_name ≡ tx.old.conn.ghost_name }
     ensures step { ReadsAllRows S.Store tx.old tx.new result Customers }
-    ensures fault { OnErr result (result ≡ Err Store) }
 {
     select_rows(
         tx,
@@ -65,10 +60,9 @@ pub fn customer_rows<S: Alter>(tx: &mut Transaction<'_, S>) -> Result<Vec<Row>, 
     )
 }
 
-pub fn account_rows<S: Alter>(tx: &mut Transaction<'_, S>) -> Result<Vec<Row>, Fault>
+pub fn account_rows<S: Alter>(tx: &mut Transaction<'_, S>) -> Result<Vec<Row>, StoreFailed>
     ensures same_reference { tx.new.conn.ghost_name ≡ tx.old.conn.ghost_name }
     ensures step { ReadsAllRows S.Store tx.old tx.new result Accounts }
-    ensures fault { OnErr result (result ≡ Err Store) }
 {
     select_rows(
         tx,
@@ -78,10 +72,9 @@ pub fn account_rows<S: Alter>(tx: &mut Transaction<'_, S>) -> Result<Vec<Row>, F
     )
 }
 
-pub fn permission_rows<S: Alter>(tx: &mut Transaction<'_, S>) -> Result<Vec<Row>, Fault>
+pub fn permission_rows<S: Alter>(tx: &mut Transaction<'_, S>) -> Result<Vec<Row>, StoreFailed>
     ensures same_reference { tx.new.conn.ghost_name ≡ tx.old.conn.ghost_name }
     ensures step { ReadsAllRows S.Store tx.old tx.new result Permissions }
-    ensures fault { OnErr result (result ≡ Err Store) }
 {
     select_rows(
         tx,
@@ -91,10 +84,9 @@ pub fn permission_rows<S: Alter>(tx: &mut Transaction<'_, S>) -> Result<Vec<Row>
     )
 }
 
-pub fn security_rows<S: Alter>(tx: &mut Transaction<'_, S>) -> Result<Vec<Row>, Fault>
+pub fn security_rows<S: Alter>(tx: &mut Transaction<'_, S>) -> Result<Vec<Row>, StoreFailed>
     ensures same_reference { tx.new.conn.ghost_name ≡ tx.old.conn.ghost_name }
     ensures step { ReadsAllRows S.Store tx.old tx.new result Securities }
-    ensures fault { OnErr result (result ≡ Err Store) }
 {
     select_rows(
         tx,
@@ -103,10 +95,9 @@ pub fn security_rows<S: Alter>(tx: &mut Transaction<'_, S>) -> Result<Vec<Row>, 
     )
 }
 
-pub fn last_trade_rows<S: Alter>(tx: &mut Transaction<'_, S>) -> Result<Vec<Row>, Fault>
+pub fn last_trade_rows<S: Alter>(tx: &mut Transaction<'_, S>) -> Result<Vec<Row>, StoreFailed>
     ensures same_reference { tx.new.conn.ghost_name ≡ tx.old.conn.ghost_name }
     ensures step { ReadsAllRows S.Store tx.old tx.new result LastTrades }
-    ensures fault { OnErr result (result ≡ Err Store) }
 {
     select_rows(
         tx,
@@ -115,10 +106,9 @@ pub fn last_trade_rows<S: Alter>(tx: &mut Transaction<'_, S>) -> Result<Vec<Row>
     )
 }
 
-pub fn charge_rows<S: Alter>(tx: &mut Transaction<'_, S>) -> Result<Vec<Row>, Fault>
+pub fn charge_rows<S: Alter>(tx: &mut Transaction<'_, S>) -> Result<Vec<Row>, StoreFailed>
     ensures same_reference { tx.new.conn.ghost_name ≡ tx.old.conn.ghost_name }
     ensures step { ReadsAllRows S.Store tx.old tx.new result Charges }
-    ensures fault { OnErr result (result ≡ Err Store) }
 {
     select_rows(
         tx,
@@ -127,10 +117,9 @@ pub fn charge_rows<S: Alter>(tx: &mut Transaction<'_, S>) -> Result<Vec<Row>, Fa
     )
 }
 
-pub fn commission_rate_rows<S: Alter>(tx: &mut Transaction<'_, S>) -> Result<Vec<Row>, Fault>
+pub fn commission_rate_rows<S: Alter>(tx: &mut Transaction<'_, S>) -> Result<Vec<Row>, StoreFailed>
     ensures same_reference { tx.new.conn.ghost_name ≡ tx.old.conn.ghost_name }
     ensures step { ReadsAllRows S.Store tx.old tx.new result Bands }
-    ensures fault { OnErr result (result ≡ Err Store) }
 {
     select_rows(
         tx,
@@ -140,10 +129,9 @@ pub fn commission_rate_rows<S: Alter>(tx: &mut Transaction<'_, S>) -> Result<Vec
     )
 }
 
-pub fn tax_rate_rows<S: Alter>(tx: &mut Transaction<'_, S>) -> Result<Vec<Row>, Fault>
+pub fn tax_rate_rows<S: Alter>(tx: &mut Transaction<'_, S>) -> Result<Vec<Row>, StoreFailed>
     ensures same_reference { tx.new.conn.ghost_name ≡ tx.old.conn.ghost_name }
     ensures step { ReadsAllRows S.Store tx.old tx.new result TaxRates }
-    ensures fault { OnErr result (result ≡ Err Store) }
 {
     select_rows(
         tx,
@@ -152,10 +140,9 @@ pub fn tax_rate_rows<S: Alter>(tx: &mut Transaction<'_, S>) -> Result<Vec<Row>, 
     )
 }
 
-pub fn customer_tax_rows<S: Alter>(tx: &mut Transaction<'_, S>) -> Result<Vec<Row>, Fault>
+pub fn customer_tax_rows<S: Alter>(tx: &mut Transaction<'_, S>) -> Result<Vec<Row>, StoreFailed>
     ensures same_reference { tx.new.conn.ghost_name ≡ tx.old.conn.ghost_name }
     ensures step { ReadsAllRows S.Store tx.old tx.new result CustomerTaxes }
-    ensures fault { OnErr result (result ≡ Err Store) }
 {
     select_rows(
         tx,
@@ -164,10 +151,9 @@ pub fn customer_tax_rows<S: Alter>(tx: &mut Transaction<'_, S>) -> Result<Vec<Ro
     )
 }
 
-pub fn trade_rows<S: Alter>(tx: &mut Transaction<'_, S>) -> Result<Vec<Row>, Fault>
+pub fn trade_rows<S: Alter>(tx: &mut Transaction<'_, S>) -> Result<Vec<Row>, StoreFailed>
     ensures same_reference { tx.new.conn.ghost_name ≡ tx.old.conn.ghost_name }
     ensures step { ReadsAllRows S.Store tx.old tx.new result Trades }
-    ensures fault { OnErr result (result ≡ Err Store) }
 {
     select_rows(
         tx,
@@ -178,10 +164,9 @@ pub fn trade_rows<S: Alter>(tx: &mut Transaction<'_, S>) -> Result<Vec<Row>, Fau
     )
 }
 
-pub fn trade_history_rows<S: Alter>(tx: &mut Transaction<'_, S>) -> Result<Vec<Row>, Fault>
+pub fn trade_history_rows<S: Alter>(tx: &mut Transaction<'_, S>) -> Result<Vec<Row>, StoreFailed>
     ensures same_reference { tx.new.conn.ghost_name ≡ tx.old.conn.ghost_name }
     ensures step { ReadsAllRows S.Store tx.old tx.new result TradeHistory }
-    ensures fault { OnErr result (result ≡ Err Store) }
 {
     select_rows(
         tx,
@@ -190,10 +175,9 @@ pub fn trade_history_rows<S: Alter>(tx: &mut Transaction<'_, S>) -> Result<Vec<R
     )
 }
 
-pub fn trade_request_rows<S: Alter>(tx: &mut Transaction<'_, S>) -> Result<Vec<Row>, Fault>
+pub fn trade_request_rows<S: Alter>(tx: &mut Transaction<'_, S>) -> Result<Vec<Row>, StoreFailed>
     ensures same_reference { tx.new.conn.ghost_name ≡ tx.old.conn.ghost_name }
     ensures step { ReadsAllRows S.Store tx.old tx.new result Requests }
-    ensures fault { OnErr result (result ≡ Err Store) }
 {
     select_rows(
         tx,
@@ -203,10 +187,9 @@ pub fn trade_request_rows<S: Alter>(tx: &mut Transaction<'_, S>) -> Result<Vec<R
     )
 }
 
-pub fn holding_rows<S: Alter>(tx: &mut Transaction<'_, S>) -> Result<Vec<Row>, Fault>
+pub fn holding_rows<S: Alter>(tx: &mut Transaction<'_, S>) -> Result<Vec<Row>, StoreFailed>
     ensures same_reference { tx.new.conn.ghost_name ≡ tx.old.conn.ghost_name }
     ensures step { ReadsAllRows S.Store tx.old tx.new result Holdings }
-    ensures fault { OnErr result (result ≡ Err Store) }
 {
     select_rows(
         tx,
@@ -215,10 +198,9 @@ pub fn holding_rows<S: Alter>(tx: &mut Transaction<'_, S>) -> Result<Vec<Row>, F
     )
 }
 
-pub fn holding_summary_rows<S: Alter>(tx: &mut Transaction<'_, S>) -> Result<Vec<Row>, Fault>
+pub fn holding_summary_rows<S: Alter>(tx: &mut Transaction<'_, S>) -> Result<Vec<Row>, StoreFailed>
     ensures same_reference { tx.new.conn.ghost_name ≡ tx.old.conn.ghost_name }
     ensures step { ReadsAllRows S.Store tx.old tx.new result Summaries }
-    ensures fault { OnErr result (result ≡ Err Store) }
 {
     select_rows(
         tx,
@@ -227,10 +209,9 @@ pub fn holding_summary_rows<S: Alter>(tx: &mut Transaction<'_, S>) -> Result<Vec
     )
 }
 
-pub fn holding_history_rows<S: Alter>(tx: &mut Transaction<'_, S>) -> Result<Vec<Row>, Fault>
+pub fn holding_history_rows<S: Alter>(tx: &mut Transaction<'_, S>) -> Result<Vec<Row>, StoreFailed>
     ensures same_reference { tx.new.conn.ghost_name ≡ tx.old.conn.ghost_name }
     ensures step { ReadsAllRows S.Store tx.old tx.new result HoldingHistory }
-    ensures fault { OnErr result (result ≡ Err Store) }
 {
     select_rows(
         tx,
@@ -240,10 +221,9 @@ pub fn holding_history_rows<S: Alter>(tx: &mut Transaction<'_, S>) -> Result<Vec
     )
 }
 
-pub fn settlement_rows<S: Alter>(tx: &mut Transaction<'_, S>) -> Result<Vec<Row>, Fault>
+pub fn settlement_rows<S: Alter>(tx: &mut Transaction<'_, S>) -> Result<Vec<Row>, StoreFailed>
     ensures same_reference { tx.new.conn.ghost_name ≡ tx.old.conn.ghost_name }
     ensures step { ReadsAllRows S.Store tx.old tx.new result Settlements }
-    ensures fault { OnErr result (result ≡ Err Store) }
 {
     select_rows(
         tx,
@@ -252,10 +232,9 @@ pub fn settlement_rows<S: Alter>(tx: &mut Transaction<'_, S>) -> Result<Vec<Row>
     )
 }
 
-pub fn cash_transaction_rows<S: Alter>(tx: &mut Transaction<'_, S>) -> Result<Vec<Row>, Fault>
+pub fn cash_transaction_rows<S: Alter>(tx: &mut Transaction<'_, S>) -> Result<Vec<Row>, StoreFailed>
     ensures same_reference { tx.new.conn.ghost_name ≡ tx.old.conn.ghost_name }
     ensures step { ReadsAllRows S.Store tx.old tx.new result CashRows }
-    ensures fault { OnErr result (result ≡ Err Store) }
 {
     select_rows(
         tx,
@@ -264,10 +243,9 @@ pub fn cash_transaction_rows<S: Alter>(tx: &mut Transaction<'_, S>) -> Result<Ve
     )
 }
 
-fn cash_move_rows<S: Alter>(tx: &mut Transaction<'_, S>) -> Result<Vec<Row>, Fault>
+fn cash_move_rows<S: Alter>(tx: &mut Transaction<'_, S>) -> Result<Vec<Row>, StoreFailed>
     ensures same_reference { tx.new.conn.ghost_name ≡ tx.old.conn.ghost_name }
     ensures step { ReadsAllRows S.Store tx.old tx.new result CashMoves }
-    ensures fault { OnErr result (result ≡ Err Store) }
 {
     select_rows(
         tx,
@@ -276,10 +254,9 @@ fn cash_move_rows<S: Alter>(tx: &mut Transaction<'_, S>) -> Result<Vec<Row>, Fau
     )
 }
 
-fn settle_rule_rows<S: Alter>(tx: &mut Transaction<'_, S>) -> Result<Vec<Row>, Fault>
+fn settle_rule_rows<S: Alter>(tx: &mut Transaction<'_, S>) -> Result<Vec<Row>, StoreFailed>
     ensures same_reference { tx.new.conn.ghost_name ≡ tx.old.conn.ghost_name }
     ensures step { ReadsAllRows S.Store tx.old tx.new result SettleRules }
-    ensures fault { OnErr result (result ≡ Err Store) }
 {
     select_rows(
         tx,
@@ -293,10 +270,9 @@ pub fn cash_move_rows_in_schema<S: Alter>(
     tx: &mut Transaction<'_, S>,
     alloc: Global,
     schema: Schema,
-) -> Result<Vec<Row>, Fault>
+) -> Result<Vec<Row>, StoreFailed>
     ensures same_reference { tx.new.conn.ghost_name ≡ tx.old.conn.ghost_name }
     ensures step { ReadsRowsIfInSchema S.Store tx.old tx.new result (abstract_schema schema) CashMoves }
-    ensures fault { OnErr result (result ≡ Err Store) }
 {
     if !schema.has_cash_move_table() {
         return Ok(Vec::new(alloc));
@@ -309,10 +285,9 @@ pub fn settle_rule_rows_in_schema<S: Alter>(
     tx: &mut Transaction<'_, S>,
     alloc: Global,
     schema: Schema,
-) -> Result<Vec<Row>, Fault>
+) -> Result<Vec<Row>, StoreFailed>
     ensures same_reference { tx.new.conn.ghost_name ≡ tx.old.conn.ghost_name }
     ensures step { ReadsRowsIfInSchema S.Store tx.old tx.new result (abstract_schema schema) SettleRules }
-    ensures fault { OnErr result (result ≡ Err Store) }
 {
     if !schema.has_settle_rule_table() {
         return Ok(Vec::new(alloc));

@@ -1,14 +1,13 @@
-ghost use Rattle.std.specs.Prelude.{◌≡◌, ◌≢◌, ◌↔◌, ◌<◌, Err, OnErr, IsTrue, length, false, pos};
+ghost use Rattle.std.specs.Prelude.{◌≡◌, ◌≢◌, ◌↔◌, ◌<◌, IsTrue, length, false, pos};
 ghost use Rattle.sqlite_value.specs.declared.value.Value.TheVariants.{Int};
 ghost use Rattle.sqlite_value.specs.Order.{column};
-ghost use Rattle.brk_money.specs.declared.fault.Fault.TheVariants.{Store};
 ghost use Rattle.brk_trade_rows.specs.Schemas.{abstract_schema};
 ghost use Rattle.brk_tables_sql.specs.Model.{IsConnectionStep};
 ghost use Rattle.brk_tables_scan.specs.Schemas.{DatabaseHasSchema, TablesWithSchemaNamesAreDeskTables, IsDeskRowOfSchema, IsOneDeskRowOfSchema};
 
 use crate::columns::tables_match;
 use crate::rows::desk_rows;
-use brk_money::Fault;
+use brk_money::StoreFailed;
 use brk_trade_rows::Schema;
 use sqlite::{Alter, Row, Transaction};
 use sqlite_value::value::ValueRef;
@@ -62,11 +61,10 @@ fn has_one_desk_row(schema: Schema, rows: &[Row]) -> bool
 pub fn database_has_schema<S: Alter>(
     tx: &mut Transaction<'_, S>,
     schema: Schema,
-) -> Result<bool, Fault>
+) -> Result<bool, StoreFailed>
     ensures same_reference { tx.new.conn.ghost_name ≡ tx.old.conn.ghost_name }
     ensures step { IsConnectionStep S.Store tx.old tx.new result (λ has a b. IsTrue a.is_open × (b.now ≡ a.now)
         × (TablesWithSchemaNamesAreDeskTables (abstract_schema schema) a.now → IsTrue has ↔ DatabaseHasSchema (abstract_schema schema) a.now)) }
-    ensures fault { OnErr result (result ≡ Err Store) }
 {
     if !tables_match(tx, schema)? {
         return Ok(false);

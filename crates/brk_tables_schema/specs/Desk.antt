@@ -1,5 +1,5 @@
 -- Written by tools/generate/tables.py: the tables of a desk, and the list of rows that each holds.
-use Rattle.std.specs.Prelude.{◌≡◌, ℕ, Bool, true, List, [], ◌∷◌, Option, Some, None, map, filter, not, refl}
+use Rattle.std.specs.Prelude.{◌≡◌, ℕ, Bool, true, List, [], ◌∷◌, Option, Some, None, filter, not, refl}
 use Rattle.std.specs.declared.cmp.Ordering.{Ordering}
 use Rattle.sqlite_value.specs.Order.{Row}
 use Rattle.sqlite_schema.specs.declared.schema.Table.{Table}
@@ -74,8 +74,7 @@ schema_has_table schema CashMoves = schema.has_cash_move_table
 schema_has_table schema SettleRules = schema.has_settle_rule_table
 schema_has_table schema w = true
 
--- The definition of the table `w` of a desk, with its rows at the given tree: its SQL name,
--- columns, keys and foreign keys.
+-- The definition of the table `w` of a desk, with its rows at the given tree.
 abbrev pub table_definition_at_tree : DeskTable → ℕ → Table
 table_definition_at_tree TheDesk = desk_row_table
 table_definition_at_tree KeptRows = kept_table
@@ -200,13 +199,11 @@ primary_key_of_record CashRows = cash_transaction_key
 primary_key_of_record CashMoves = cash_move_key
 primary_key_of_record SettleRules = rule_key
 
--- The ordering of two records of the table `w` by their primary keys, part by part, in the order of
--- SQL values.
+-- The ordering of two records of the table `w` by their primary keys, part by part.
 abbrev pub ordering_by_primary_key : (w : DeskTable) → RecordOfTable w → RecordOfTable w → Ordering
 ordering_by_primary_key w = ordering_by_key (primary_key_of_record w)
 
--- The records of the table `w` of a desk with the tables `t`. Only the record of DESK depends on
--- the schema.
+-- The records of the table `w` of a desk with the tables `t`; that of DESK depends on the schema.
 abbrev pub rows_of_table_in_schema : Schema → (w : DeskTable) → Tables → List (RecordOfTable w)
 rows_of_table_in_schema schema TheDesk t = desk_rows schema t.last
 rows_of_table_in_schema schema KeptRows t = t.kept
@@ -235,8 +232,7 @@ rows_of_table_in_schema schema SettleRules t = rule_rows t.rule
 abbrev pub rows_of_table : (w : DeskTable) → Tables → List (RecordOfTable w)
 rows_of_table = rows_of_table_in_schema third_schema
 
--- All tables of a desk, also those that `schema` lacks, as the tables of a program: their
--- definitions, records, encodings and orders. The row of DESK has the number of `schema`.
+-- All tables of a desk, also those that `schema` lacks, as the tables of a program.
 abbrev pub desk_tables_of_schema : Schema → ProgramTables DeskTable Tables
 desk_tables_of_schema schema = record {
   shape = table_definition_at_tree;
@@ -247,8 +243,7 @@ desk_tables_of_schema schema = record {
   list = rows_of_table_in_schema schema;
 }
 
--- All tables of a desk in schema 3 as the tables of a program: their definitions, records,
--- encodings and orders.
+-- All tables of a desk in schema 3 as the tables of a program.
 abbrev pub desk_tables : ProgramTables DeskTable Tables
 desk_tables = desk_tables_of_schema third_schema
 
@@ -262,15 +257,10 @@ all_tables =
 abbrev pub tables_in_schema : Schema → List DeskTable
 tables_in_schema schema = filter (schema_has_table schema) all_tables
 
--- The list of the tables of a desk that the schema `schema` does not have and later schemas add, in
--- the order of `all_tables`; empty for schema 3.
+-- The list of the tables that the schema `schema` does not have, in the order of `all_tables`.
 abbrev pub tables_of_later_schemas : Schema → List DeskTable
 tables_of_later_schemas schema = filter (λ w. not (schema_has_table schema w)) all_tables
 
 -- The SQL name of the table `w`, in ASCII.
 abbrev pub table_name : DeskTable → List ℕ
 table_name w = (table_definition_at_tree w 0).name
-
--- The SQL names of all tables of a desk, in ASCII, in the order of `all_tables`.
-abbrev pub all_table_names : List (List ℕ)
-all_table_names = map table_name all_tables

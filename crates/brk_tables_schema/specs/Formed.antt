@@ -36,8 +36,7 @@ abbrev pub is_integer_cell : Value → Bool
 is_integer_cell (Int n) = true
 is_integer_cell _ = false
 
--- True if the value is an INTEGER within the limits of an amount in cents, of either sign: at most
--- 10^17 in absolute value.
+-- True if the value is an INTEGER of at most 10^17 in absolute value: an amount in cents.
 abbrev pub is_signed_amount_cell : Value → Bool
 is_signed_amount_cell (Int n) = is_within_amount_limit n
 is_signed_amount_cell _ = false
@@ -79,13 +78,11 @@ is_cash_type_text s = list_any (λ kind. bytes_eq (cash_type_text kind) s) all_c
 abbrev pub is_tax_status_number : ℕ → Bool
 is_tax_status_number n = is_some (tax_status_with_number n)
 
--- True if the value is an INTEGER within the limits of an id: from 1 to the greatest id, both
--- included.
+-- True if the value is an INTEGER that is an id.
 abbrev pub is_id_cell : Value → Bool
 is_id_cell = is_natural_cell is_id
 
--- True if the value is an INTEGER within the limits of the number of a cash row: from 1 to the
--- greatest number, both included.
+-- True if the value is an INTEGER that is the number of a cash row.
 abbrev pub is_cash_row_number_cell : Value → Bool
 is_cash_row_number_cell = is_natural_cell is_cash_row_number
 
@@ -117,38 +114,31 @@ is_status_cell = is_text_cell is_status_code
 abbrev pub is_tier_cell : Value → Bool
 is_tier_cell = is_natural_cell is_tier
 
--- True if the value is an INTEGER within the limits of a quantity in schema 3: from 1 share to the
--- greatest quantity, both included.
+-- True if the value is an INTEGER that is a quantity of shares in schema 3.
 abbrev pub is_quantity_cell : Value → Bool
 is_quantity_cell = is_natural_cell (is_quantity_in_schema third_schema)
 
--- True if the value is an INTEGER within the limits of a price: from 1 cent to the greatest price,
--- both included.
+-- True if the value is an INTEGER that is a price, in cents.
 abbrev pub is_price_cell : Value → Bool
 is_price_cell = is_natural_cell is_price
 
--- True if the value is an INTEGER of at least 0 and at most the greatest stamp, in milliseconds
--- since 1970-01-01 UTC.
+-- True if the value is an INTEGER that is a stamp, in milliseconds since 1970-01-01 UTC.
 abbrev pub is_stamp_cell : Value → Bool
 is_stamp_cell = is_natural_cell (λ n. nat_le n greatest_stamp)
 
--- True if the value is an INTEGER of at least 0 and at most the greatest amount: an amount in cents
--- or a volume in shares.
+-- True if the value is an INTEGER from 0 to the greatest amount, in cents or in shares.
 abbrev pub is_amount_cell : Value → Bool
 is_amount_cell = is_natural_cell (λ n. nat_le n greatest_amount)
 
--- True if the value is an INTEGER of at least 0 and at most the greatest commission rate, in
--- hundredths of a percent.
+-- True if the value is an INTEGER that is a commission rate, in hundredths of a percent.
 abbrev pub is_commission_rate_cell : Value → Bool
 is_commission_rate_cell = is_natural_cell (λ n. nat_le n greatest_commission_rate)
 
--- True if the value is an INTEGER of at least 0 and at most the greatest tax rate, in
--- hundred-thousandths.
+-- True if the value is an INTEGER that is a tax rate, in hundred-thousandths.
 abbrev pub is_tax_rate_cell : Value → Bool
 is_tax_rate_cell = is_natural_cell (λ n. nat_le n greatest_tax_rate)
 
--- True if the value is an INTEGER of at least 0 and at most the greatest day, in days since
--- 1970-01-01.
+-- True if the value is an INTEGER that is a day, in days since 1970-01-01.
 abbrev pub is_day_cell : Value → Bool
 is_day_cell = is_natural_cell (λ n. nat_le n greatest_day)
 
@@ -160,8 +150,7 @@ is_tax_status_cell = is_natural_cell is_tax_status_number
 abbrev pub is_charge_cell : Value → Bool
 is_charge_cell = is_natural_cell (λ n. nat_le n greatest_charge)
 
--- True if the value is NULL, or an INTEGER of at least 0 and at most the greatest stamp, in
--- milliseconds since 1970-01-01 UTC.
+-- True if the value is NULL or a stamp (`is_stamp_cell`).
 abbrev pub is_null_or_stamp_cell : Value → Bool
 is_null_or_stamp_cell = is_null_or_natural_cell (λ n. nat_le n greatest_stamp)
 
@@ -179,8 +168,7 @@ passes_all_cell_checks _ _ = false
 abbrev pub desk_column_cell_checks : Schema → List (Value → Bool)
 desk_column_cell_checks schema = is_natural_cell (λ n. n == 1) ∷ is_natural_cell (λ n. n == schema.number) ∷ is_null_or_stamp_cell ∷ []
 
--- True if there is exactly one row of DESK, and it passes the checks of its columns in the schema
--- `schema`.
+-- True if there is exactly one row of DESK, and it passes the checks of its columns.
 abbrev pub has_one_valid_desk_row : Schema → List Row → Bool
 has_one_valid_desk_row schema (row ∷ []) = passes_all_cell_checks (desk_column_cell_checks schema) row
 has_one_valid_desk_row schema _ = false

@@ -7,19 +7,12 @@ use Rattle.brk_model.specs.Tables.{Tables}
 use Rattle.brk_tables_sql.specs.Model.{WritesTables, ReadsTables}
 use Rattle.brk_tables_schema.specs.Desk.{DeskTable, RecordOfTable, desk_tables, rows_of_table}
 
--- Under the disk assumption and within a transaction: if the call succeeds, it changes the rows of
--- a desk's tables from `t` to `f t`, for all `t`, and no other table, unless a foreign key of that
--- table changes or deletes its rows. This is vacuous if the database does not contain all tables of
--- a desk in schema 3. The call is a step of its connection (`IsConnectionStep`), so under the disk
--- assumption it commits nothing, and leaves an open transaction open if it succeeds.
+-- The call changes the rows of a desk's tables in schema 3 from `t` to `f t` (`WritesTables`).
 abbrev pub WritesDeskTables : {S V E : Type 0} → Ghosts S → Transaction S → Transaction S → Result V E → (Tables → Tables) → Type 0
 WritesDeskTables g old new result f = WritesTables desk_tables g old new result f
 
--- Under the disk assumption and within a transaction: if the call succeeds, the database was open
--- and is unchanged, and `Matches` relates the returned value to the rows of a desk's tables. The
--- last part is vacuous if the database does not contain all tables of a desk in schema 3. The call
--- is a step of its connection (`IsConnectionStep`), so under the disk assumption it commits
--- nothing, and leaves an open transaction open if it succeeds.
+-- The call changes nothing, and `Matches` relates the returned value to the rows of a desk's tables
+-- in schema 3 (`ReadsTables`).
 abbrev pub ReadsDeskTables : {S V E : Type 0} → Ghosts S → Transaction S → Transaction S → Result V E → (V → Tables → Type 0) → Type 0
 ReadsDeskTables g old new result Matches = ReadsTables desk_tables g old new result Matches
 
@@ -33,22 +26,14 @@ IsFirstMatch w of is o t = option_map of o ≡ find is (rows_of_table w t)
 abbrev pub AreMatchingRows : {X : Type 0} (w : DeskTable) → (X → RecordOfTable w) → (RecordOfTable w → Bool) → Vec X → Tables → Type 0
 AreMatchingRows w of is all t = map of all.items ≡ filter is (rows_of_table w t)
 
--- Under the disk assumption and within a transaction: if the call succeeds, the database was open
--- and is unchanged, and the call returns the record with the least key of those of the table `w`
--- that pass the test `is`, or `None` if no record passes; `of` converts a returned value to a
--- record of the table. The part on the result is vacuous if the database does not contain all
--- tables of a desk in schema 3. The call is a step of its connection (`IsConnectionStep`), so under
--- the disk assumption it commits nothing, and leaves an open transaction open if it succeeds.
+-- A read (`ReadsDeskTables`) of the record with the least key of those of the table `w` that pass
+-- the test `is`, or `None` if no record passes (`IsFirstMatch`).
 abbrev pub ReadsFirstMatch : {S X E : Type 0} → Ghosts S → Transaction S → Transaction S → Result (Option X) E → (w : DeskTable) → (X → RecordOfTable w)
     → (RecordOfTable w → Bool) → Type 0
 ReadsFirstMatch g old new result w of is = ReadsDeskTables g old new result (IsFirstMatch w of is)
 
--- Under the disk assumption and within a transaction: if the call succeeds, the database was open
--- and is unchanged, and the call returns all records of the table `w` that pass the test `is`,
--- sorted by the key of the table, ascending; `of` converts a returned value to a record of the
--- table. The part on the result is vacuous if the database does not contain all tables of a desk in
--- schema 3. The call is a step of its connection (`IsConnectionStep`), so under the disk assumption
--- it commits nothing, and leaves an open transaction open if it succeeds.
+-- A read (`ReadsDeskTables`) of all records of the table `w` that pass the test `is`, sorted by the
+-- key of the table, ascending (`AreMatchingRows`).
 abbrev pub ReadsMatchingRows : {S X E : Type 0} → Ghosts S → Transaction S → Transaction S → Result (Vec X) E → (w : DeskTable) → (X → RecordOfTable w)
     → (RecordOfTable w → Bool) → Type 0
 ReadsMatchingRows g old new result w of is = ReadsDeskTables g old new result (AreMatchingRows w of is)

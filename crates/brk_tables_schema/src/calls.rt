@@ -1,9 +1,8 @@
-//! Calls of the database within a transaction. They commit nothing, and fail with the fault `Store`
-//! only, for any error of the database; it is then unchanged or the transaction is rolled back.
+//! Calls of the database within a transaction. They commit nothing. At an error the database is
+//! unchanged or the transaction is rolled back.
 
-ghost use Rattle.std.specs.Prelude.{◌≡◌, ℕ, List, map, Ok, None, Err, OnErr, IsTrue};
+ghost use Rattle.std.specs.Prelude.{◌≡◌, ℕ, List, map, Ok, None, IsTrue};
 ghost use Rattle.std.specs.Borrow.{Bor};
-ghost use Rattle.brk_money.specs.declared.fault.Fault.TheVariants.{Store};
 ghost use Rattle.sqlite.specs.Listing.{understood};
 ghost use Rattle.sqlite.specs.Values.{bound};
 ghost use Rattle.sqlite_resolve.specs.declared.compiled.Compiled.{Compiled};
@@ -11,7 +10,7 @@ ghost use Rattle.sqlite_schema.specs.declared.schema.Schema.{Schema};
 ghost use Rattle.brk_tables_sql.specs.Desk.{IsResultColumnCheckOutcome, IsCompilationOutcome};
 ghost use Rattle.brk_tables_sql.specs.Model.{ExecutesStatement, SelectsRows, IsConnectionStep};
 
-use brk_money::Fault;
+use brk_money::StoreFailed;
 use sqlite::{Alter, Row, Transaction};
 use sqlite_value::value::ValueRef;
 
@@ -20,14 +19,13 @@ pub fn execute_statement<S: Alter>(
     tx: &mut Transaction<'_, S>,
     text: &str,
     params: &[ValueRef<'_>],
-) -> Result<(), Fault>
+) -> Result<(), StoreFailed>
     ensures same_reference { tx.new.conn.ghost_name ≡ tx.old.conn.ghost_name }
     ensures step { IsConnectionStep S.Store tx.old tx.new result (λ _. ExecutesStatement text.now (bound params.now)) }
-    ensures fault { OnErr result (result ≡ Err Store) }
 {
     match tx.execute(text, params) {
         Ok(_) => Ok(()),
-        Err(_) => Err(Fault::Store),
+        Err(_) => Err(StoreFailed),
     }
 }
 
@@ -36,29 +34,30 @@ pub fn select_rows<S: Alter>(
     tx: &mut Transaction<'_, S>,
     text: &str,
     params: &[ValueRef<'_>],
-) -> Result<Vec<Row>, Fault>
+) -> Result<Vec<Row>, StoreFailed>
     requires no_returning_clause { (schema : Schema) (c : Compiled) → understood schema text.now ≡ Ok c → c.returning ≡ None }
     ensures same_reference { tx.new.conn.ghost_name ≡ tx.old.conn.ghost_name }
     ensures step { IsConnectionStep S.Store tx.old tx.new result (λ rows. SelectsRows text.now (bound params.now) rows.items) }
-    ensures fault { OnErr result (result ≡ Err Store) }
 {
     match tx.query_all(text, params) {
         Ok(rows) => Ok(rows),
-        Err(_) => Err(Fault::Store),
+        Err(_) => Err(StoreFailed),
     }
 }
 
 /// Returns true if the statement compiles, and false if a table that it names does not exist. The
 /// statement is not executed.
-pub fn statement_compiles<S: Alter>(tx: &mut Transaction<'_, S>, text: &str) -> Result<bool, Fault>
+pub fn statement_compiles<S: Alter>(
+    tx: &mut Transaction<'_, S>,
+    text: &str,
+) -> Result<bool, StoreFailed>
     ensures same_reference { tx.new.conn.ghost_name ≡ tx.old.conn.ghost_name }
     ensures step { IsConnectionStep S.Store tx.old tx.new result (λ has a b. IsTrue a.is_open × (b.now ≡ a.now)
         × IsCompilationOutcome text.now has a.now.schema) }
-    ensures fault { OnErr result (result ≡ Err Store) }
 {
     match brk_tables_sql::statement_compiles(tx, text) {
         Ok(has) => Ok(has),
-        Err(_) => Err(Fault::Store),
+        Err(_) => Err(StoreFailed),
     }
 }
 
@@ -68,14 +67,13 @@ pub fn statement_has_columns<S: Alter>(
     tx: &mut Transaction<'_, S>,
     text: &str,
     names: &[&str],
-) -> Result<bool, Fault>
+) -> Result<bool, StoreFailed>
     ensures same_reference { tx.new.conn.ghost_name ≡ tx.old.conn.ghost_name }
     ensures step { IsConnectionStep S.Store tx.old tx.new result (λ has a b. IsTrue a.is_open × (b.now ≡ a.now)
         × IsResultColumnCheckOutcome text.now (map (λ (name : Bor (List ℕ)). name.now) names.now) has a.now.schema) }
-    ensures fault { OnErr result (result ≡ Err Store) }
 {
     match brk_tables_sql::statement_has_columns(tx, text, names) {
         Ok(has) => Ok(has),
-        Err(_) => Err(Fault::Store),
+        Err(_) => Err(StoreFailed),
     }
 }

@@ -1,9 +1,8 @@
 ghost use Rattle.std.specs.Prelude.{◌≡◌, ◌≢◌};
-ghost use Rattle.brk_money.specs.declared.fault.Fault.TheVariants.{Store};
 ghost use Rattle.sqlite.specs.declared.error.Error as Error;
 ghost use Rattle.sqlite.specs.declared.error.ErrorCode as ErrorCode;
 
-use brk_money::Fault;
+use brk_money::{CallFault, StoreFailed};
 use sqlite::{Error, ErrorCode};
 use std::alloc::{AllocError, AllocFailed};
 
@@ -39,13 +38,21 @@ impl<T: Drop> From<AllocFailed<T>> for DecodeError {
     }
 }
 
-/// The conversion of a decoding error to a fault. A consistent store has no malformed row.
-impl From<DecodeError> for Fault {
-    ghost from_gives = { λ _ fault. fault ≡ Store };
+/// The conversion at a read of one row. A consistent store has no malformed row.
+impl From<DecodeError> for StoreFailed {
+    /// Converts `Memory` too.
+    fn from(_: DecodeError) -> StoreFailed {
+        StoreFailed
+    }
+}
 
-    /// Converts `Memory` to `Store` too.
-    fn from(_: DecodeError) -> Fault {
-        Fault::Store
+/// The conversion at a read of several rows.
+impl From<DecodeError> for CallFault {
+    fn from(error: DecodeError) -> CallFault {
+        match error {
+            DecodeError::Form => CallFault::Store,
+            DecodeError::Memory => CallFault::Memory,
+        }
     }
 }
 

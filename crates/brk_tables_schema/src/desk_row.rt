@@ -1,5 +1,4 @@
-ghost use Rattle.std.specs.Prelude.{◌≡◌, ◌∷◌, [], IfOk, map, Err, OnErr, false};
-ghost use Rattle.brk_money.specs.declared.fault.Fault.TheVariants.{Store};
+ghost use Rattle.std.specs.Prelude.{◌≡◌, ◌∷◌, [], IfOk, map, Err, false};
 ghost use Rattle.brk_tables_sql.specs.Model.{IsConnectionStep};
 ghost use Rattle.brk_model.specs.Schemas.{third_schema};
 ghost use Rattle.brk_trade_rows.specs.Changes.{tables_with_last_stamp};
@@ -14,16 +13,18 @@ use crate::calls::{execute_statement, select_rows};
 use crate::cells::{check_column_count, natural_cell, optional_stamp_cell};
 use crate::decode_error::DecodeError;
 use crate::values::{integer_param, stamp_param};
-use brk_money::{Fault, Stamp};
+use brk_money::{Stamp, StoreFailed};
 use brk_trade_rows::Schema;
 use sqlite::{Alter, Row, Transaction};
 
 /// Sets the stamp of the last accepted command (D_LAST), in milliseconds since 1970-01-01 UTC.
 /// Changes nothing if DESK has no row with the id 1.
-pub fn set_last_stamp<S: Alter>(tx: &mut Transaction<'_, S>, stamp: Stamp) -> Result<(), Fault>
+pub fn set_last_stamp<S: Alter>(
+    tx: &mut Transaction<'_, S>,
+    stamp: Stamp,
+) -> Result<(), StoreFailed>
     ensures same_reference { tx.new.conn.ghost_name ≡ tx.old.conn.ghost_name }
     ensures step { WritesDeskTables S.Store tx.old tx.new result (tables_with_last_stamp stamp) }
-    ensures fault { OnErr result (result ≡ Err Store) }
 {
     execute_statement(
         tx,
@@ -56,9 +57,8 @@ pub fn last_stamp_in_desk_rows(schema: Schema, rows: &[Row]) -> Result<Option<St
     }
 }
 
-fn last_stamp_of_third(rows: &[Row]) -> Result<Option<Stamp>, Fault>
+fn last_stamp_of_third(rows: &[Row]) -> Result<Option<Stamp>, StoreFailed>
     ensures value { IfOk result (λ last. map desk_row_cells (desk_rows third_schema last) ≡ rows.now) }
-    ensures fault { OnErr result (result ≡ Err Store) }
 {
     Ok(last_stamp_in_desk_rows(Schema::Third, rows)?)
 }
@@ -66,10 +66,9 @@ fn last_stamp_of_third(rows: &[Row]) -> Result<Option<Stamp>, Fault>
 /// Returns the stamp of the last accepted command (D_LAST), in milliseconds since 1970-01-01 UTC,
 /// or `None` if none is stored. Fails also if DESK does not have exactly one row, with the id 1 and
 /// the number of schema 3.
-pub fn last_stamp<S: Alter>(tx: &mut Transaction<'_, S>) -> Result<Option<Stamp>, Fault>
+pub fn last_stamp<S: Alter>(tx: &mut Transaction<'_, S>) -> Result<Option<Stamp>, StoreFailed>
     ensures same_reference { tx.new.conn.ghost_name ≡ tx.old.conn.ghost_name }
     ensures step { ReadsDeskTables S.Store tx.old tx.new result (λ last t. last ≡ t.last) }
-    ensures fault { OnErr result (result ≡ Err Store) }
 {
     let rows = select_rows(
         tx,

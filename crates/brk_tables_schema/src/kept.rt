@@ -1,5 +1,4 @@
-ghost use Rattle.std.specs.Prelude.{◌≡◌, ◌==◌, ◌&&◌, Err, OnErr, bytes_eq};
-ghost use Rattle.brk_money.specs.declared.fault.Fault.TheVariants.{Store};
+ghost use Rattle.std.specs.Prelude.{◌≡◌, ◌==◌, ◌&&◌, bytes_eq};
 ghost use Rattle.brk_ref.specs.Records.{abstract_kept_row};
 ghost use Rattle.brk_trade_rows.specs.Changes.{tables_with_stored_reply};
 ghost use Rattle.brk_tables_schema.specs.Cells.{kept_cells};
@@ -12,15 +11,14 @@ use crate::cells::{check_column_count, formed_cell, row_number_cell, text_cell};
 use crate::decode_error::DecodeError;
 use crate::record::{Record, decode_first_row};
 use crate::values::{row_number_param, text_param};
-use brk_money::Fault;
+use brk_money::StoreFailed;
 use brk_ref::{Kept, Key};
 use sqlite::{Alter, Row, Transaction};
 
 /// Inserts a row of KEPT, a stored request and its reply. Fails also if its key exists.
-pub fn add_kept_row<S: Alter>(tx: &mut Transaction<'_, S>, kept: &Kept) -> Result<(), Fault>
+pub fn add_kept_row<S: Alter>(tx: &mut Transaction<'_, S>, kept: &Kept) -> Result<(), StoreFailed>
     ensures same_reference { tx.new.conn.ghost_name ≡ tx.old.conn.ghost_name }
     ensures step { WritesDeskTables S.Store tx.old tx.new result (tables_with_stored_reply (abstract_kept_row kept.now)) }
-    ensures fault { OnErr result (result ≡ Err Store) }
 {
     execute_statement(
         tx,
@@ -57,11 +55,10 @@ impl Record for Kept {
 pub fn kept_row_by_key<S: Alter>(
     tx: &mut Transaction<'_, S>,
     key: &Key,
-) -> Result<Option<Kept>, Fault>
+) -> Result<Option<Kept>, StoreFailed>
     ensures same_reference { tx.new.conn.ghost_name ≡ tx.old.conn.ghost_name }
     ensures step { ReadsFirstMatch S.Store tx.old tx.new result KeptRows abstract_kept_row (λ k. bytes_eq k.key.batch key.now.batch
         && (k.key.n == key.now.n)) }
-    ensures fault { OnErr result (result ≡ Err Store) }
 {
     let rows = select_rows(
         tx,

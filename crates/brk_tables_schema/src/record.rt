@@ -1,16 +1,14 @@
 //! Rows of a table as typed records.
 
-ghost use Rattle.std.specs.Prelude.{◌≡◌, Bool, Err, IfErr, IfOk, List, OnErr, false, map, option_map, slice_get};
+ghost use Rattle.std.specs.Prelude.{◌≡◌, Bool, Err, IfOk, List, false, map, option_map, slice_get};
 ghost use Rattle.std.specs.List.{list_all};
-ghost use Rattle.brk_money.specs.declared.fault.Fault.TheVariants.{Store};
-ghost use Rattle.brk_model.specs.Run.{IsCallFault};
 ghost use Rattle.sqlite_value.specs.declared.value.Value.{Value};
 ghost use Rattle.sqlite_value.specs.Order.{Row as Cells};
 ghost use Rattle.brk_tables_schema.specs.Formed.{passes_all_cell_checks};
 ghost use Rattle.brk_tables_schema.specs.declared.decode_error.DecodeError.TheVariants.{Form as Formless};
 
 use crate::decode_error::DecodeError;
-use brk_money::Fault;
+use brk_money::{CallFault, StoreFailed};
 use sqlite::Row;
 use std::alloc::Global;
 
@@ -29,11 +27,9 @@ pub trait Record: Drop {
         ensures form { result ≡ Err Formless → passes_all_cell_checks forms row.now ≡ false };
 }
 
-/// Decodes the first row, or returns `None` if there is no row. Fails with `Store` also if memory
-/// runs out.
-pub fn decode_first_row<T: Record>(rows: &[Row]) -> Result<Option<T>, Fault>
+/// Decodes the first row, or returns `None` if there is no row. Fails also if memory runs out.
+pub fn decode_first_row<T: Record>(rows: &[Row]) -> Result<Option<T>, StoreFailed>
     ensures value { IfOk result (λ o. option_map T.cells o ≡ slice_get rows.now 0) }
-    ensures fault { OnErr result (result ≡ Err Store) }
 {
     match rows.first() {
         Some(row) => Ok(Some(T::from_row(row)?)),
@@ -41,16 +37,11 @@ pub fn decode_first_row<T: Record>(rows: &[Row]) -> Result<Option<T>, Fault>
     }
 }
 
-/// Decodes all rows, in order. A malformed row is the fault `Store`.
-pub fn decode_rows<T: Record>(alloc: Global, rows: &[Row]) -> Result<Vec<T>, Fault>
+/// Decodes all rows, in order.
+pub fn decode_rows<T: Record>(alloc: Global, rows: &[Row]) -> Result<Vec<T>, CallFault>
     ensures value { IfOk result (λ all. map T.cells all.items ≡ rows.now) }
-    ensures fault { IfErr result IsCallFault }
 {
-    match decode_records(alloc, rows) {
-        Ok(all) => Ok(all),
-        Err(DecodeError::Form) => Err(Fault::Store),
-        Err(DecodeError::Memory) => Err(Fault::Memory),
-    }
+    Ok(decode_records(alloc, rows)?)
 }
 
 /// Decodes all rows, in order, and fails at the first malformed one.

@@ -62,7 +62,7 @@ use Rattle.brk_tables_sql.proofs.Returning.{no_returning}
 use Rattle.sqlite_resolve.specs.declared.compiled.Compiled.{Compiled}
 use Rattle.sqlite.specs.Listing.{understood}
 use Rattle.sqlite_resolve.specs.Order.{sort, sorts_from, key, peeled, alias_in, collation_of, written_on, placed, is_numeral}
-use Rattle.brk_tables_sql.specs.Partly.{sql_lowering_definitions}
+use Rattle.brk_tables_sql.proofs.Partly.{sql_lowering_definitions}
 use Rattle.brk_tables_sql.specs.Desk.{integer_column}
 use Rattle.brk_tables_sql.proofs.Scoped.{over_one, column_is, heading_is}
 use Rattle.brk_tables_sql.proofs.Selecting.{level_one, named_is, query_is}

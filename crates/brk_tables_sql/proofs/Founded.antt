@@ -6,10 +6,19 @@ use Rattle.sqlite_catalog.specs.Change.{KeepsRows}
 use Rattle.sqlite_schema.specs.declared.schema.Table.{Table}
 use Rattle.sqlite.specs.Effect.{Database, IsDatabase}
 use Rattle.brk_tables_sql.specs.Desk.{ProgramTables, IsTableAt, CreatesTableOfShape, CreatesEachTable, has_no_writing_foreign_keys, has_no_writing_foreign_keys_if_at}
-use Rattle.brk_tables_sql.specs.Desk.{HasNoWritingForeignKeysAt, CreatesTablesWithRecords}
+use Rattle.brk_tables_sql.specs.Desk.{HasNoWritingForeignKeysAt, HasTables, PreservesAllTables}
 use Rattle.brk_tables_sql.proofs.Created.{all_at}
 use Rattle.brk_tables_sql.proofs.Effects.{split}
 use Rattle.brk_tables_sql.proofs.Kept.{none_held}
+
+-- The database `new` contains the program's tables with the records `t` (`HasTables`), at trees
+-- that belong to no table of `old`, and all tables of `old`, at the same indexes and with the same
+-- rows.
+pub record CreatesTablesWithRecords {W T : Type 0} (desk : ProgramTables W T) (t : T) (old new : Database) : Type 0 where
+  pub tree : W → ℕ
+  pub tables : HasTables desk t tree new
+  pub fresh : (w : W) → AllByRecursion (λ t. t.tree ≢ tree w) old.schema.tables
+  pub others : PreservesAllTables old new
 
 or_true : (b : Bool) → (b || true) ≡ true
 or_true true = refl

@@ -30,7 +30,7 @@ use Rattle.sqlite_resolve.specs.Compile.{compiled, first}
 use Rattle.sqlite.specs.Listing.{understood, listing_schema}
 use Rattle.sqlite.specs.Steps.{column_names}
 use Rattle.sqlite_tied.specs.Compute.{everything}
-use Rattle.brk_tables_sql.specs.Partly.{sql_lowering_definitions}
+use Rattle.brk_tables_sql.proofs.Partly.{sql_lowering_definitions}
 use Rattle.brk_tables_sql.proofs.Effects.{same_value}
 use Rattle.brk_tables_sql.proofs.Meant.{meant, known, when_understood, reads_or, reads_off}
 use Rattle.brk_tables_sql.proofs.Selecting.{level_one, named_is, named_off, query_is, query_off, error_of}

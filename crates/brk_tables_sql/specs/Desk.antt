@@ -1,7 +1,7 @@
 -- The tables of one program in a database that may contain other tables. A tree is the number under
 -- which a database stores the rows of a table. A stored row has its rowid at place 0 and its
 -- columns at the places from 1 on; an INTEGER PRIMARY KEY is the rowid, so it has place 0.
-use Rattle.std.specs.Prelude.{◌≡◌, ◌≢◌, ◌==◌, ℕ, Bool, true, false, List, [], ◌∷◌, ◌++◌, Option, Some, not, ◌||◌, slice_get}
+use Rattle.std.specs.Prelude.{◌≡◌, ◌≢◌, ◌==◌, ◌↔◌, ℕ, Bool, true, false, List, [], ◌∷◌, ◌++◌, Option, Some, Ok, Err, IsTrue, not, ◌||◌, slice_get}
 use Rattle.std.specs.List.{list_all, AllByRecursion}
 use Rattle.std.specs.declared.cmp.Ordering.{Ordering}
 use Rattle.sqlite_value.specs.Order.{Row}
@@ -18,7 +18,6 @@ use Rattle.sqlite_schema.specs.declared.schema.Table.{Table}
 use Rattle.sqlite_schema.specs.declared.schema.Schema.{Schema}
 use Rattle.sqlite_schema.specs.Names.{table_named}
 use Rattle.sqlite.specs.Effect.{Database, IsDatabase}
-use Rattle.std.specs.Prelude.{◌↔◌, Ok, Err, IsTrue}
 use Rattle.sqlite_resolve.specs.declared.compiled.Compiled.{Compiled}
 use Rattle.sqlite_resolve.specs.declared.error.CompileError.TheVariants.{NoSuchTable}
 use Rattle.sqlite.specs.Listing.{understood}
@@ -32,18 +31,15 @@ use Rattle.brk_tables_sql.specs.Rows.{TreeHoldsRecords}
 abbrev pub not_null_column : Kind → List ℕ → Column
 not_null_column kind name = record { name = name; kind = kind; is_strict = true; not_null = true; default = Null; collation = Binary }
 
--- A TEXT column of a STRICT table, with this name, NOT NULL, without a default, and with the
--- collation BINARY.
+-- A TEXT column (`not_null_column`).
 abbrev pub text_column : List ℕ → Column
 text_column = not_null_column Text
 
--- An INTEGER column of a STRICT table, with this name, NOT NULL, without a default, and with the
--- collation BINARY.
+-- An INTEGER column (`not_null_column`).
 abbrev pub integer_column : List ℕ → Column
 integer_column = not_null_column Integer
 
--- An INTEGER column of a STRICT table, with this name, which may be null, without a default, and
--- with the collation BINARY.
+-- An INTEGER column that may be null.
 abbrev pub nullable_integer_column : List ℕ → Column
 nullable_integer_column name = record (integer_column name) { not_null = false }
 
@@ -165,9 +161,7 @@ pub record HasTables {W T : Type 0} (desk : ProgramTables W T) (t : T) (tree : W
   pub sound : IsDatabase db
   pub rows : (w : W) → TreeHoldsRecords (desk.shape w (tree w)) (desk.encode w) (desk.order w) (desk.list w t) (db.trees (tree w))
 
--- The database contains those tables `w` of the program `desk` for which `In w` holds, at the trees
--- `tree`, which are distinct, with their records of `t`. No foreign key of a table changes or
--- deletes rows at these trees. The database satisfies `IsDatabase` and may contain other tables.
+-- As `HasTables`, for those tables `w` of the program for which `In w` holds.
 pub record HasSelectedTables {W T : Type 0} (desk : ProgramTables W T) (In : W → Type 0) (t : T) (tree : W → ℕ) (db : Database) : Type 0 where
   pub place : W → ℕ
   pub is_table : (w : W) → In w → IsTableAt db.schema (desk.shape w (tree w)) (place w)
@@ -202,15 +196,6 @@ pub record PreservesAllTables (old new : Database) : Type 0 where
   pub more : List Table
   pub tables : new.schema.tables ≡ old.schema.tables ++ more
   pub rows : AllByRecursion (λ t. new.trees t.tree ≡ old.trees t.tree) old.schema.tables
-
--- The database `new` contains the program's tables with the records `t` (`HasTables`), at trees
--- that belong to no table of `old`, and all tables of `old`, at the same indexes and with the same
--- rows.
-pub record CreatesTablesWithRecords {W T : Type 0} (desk : ProgramTables W T) (t : T) (old new : Database) : Type 0 where
-  pub tree : W → ℕ
-  pub tables : HasTables desk t tree new
-  pub fresh : (w : W) → AllByRecursion (λ t. t.tree ≢ tree w) old.schema.tables
-  pub others : PreservesAllTables old new
 
 -- If the Boolean is true, the statement `text` compiles in the schema. If it is false, `text` does
 -- not compile, because a table that it names does not exist. If `text` does not compile for another

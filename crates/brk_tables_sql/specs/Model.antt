@@ -34,24 +34,19 @@ abbrev pub IsUnchangedAndSatisfies : {W T : Type 0} → ProgramTables W T → (T
 IsUnchangedAndSatisfies desk P old new = IsTrue old.is_open × (new.now ≡ old.now) × TablesSatisfy desk P old.now
 
 -- A call on a transaction, `old` before the call and `new` after it, is a step
--- (`IsTransactionStep`) of the transaction's connection. Among other things, under the disk
--- assumption, if the transaction is open before the call and the call returns `Ok v`, `Made v`
--- relates the states of the connection before and after the call.
+-- (`IsTransactionStep`) of the transaction's connection.
 abbrev pub IsConnectionStep : {S V E : Type 0} → Ghosts S → Transaction S → Transaction S → Result V E → (V → State → State → Type 0) → Type 0
 IsConnectionStep g old new result Made = IsTransactionStep (state g old.conn.now) (state g new.conn.now) result Made
 
--- Under the disk assumption and within a transaction: if the call succeeds, it changes the records
--- of the program's tables from `t` to `f t`, for all `t`, and no other table, unless a foreign key
--- of that table changes or deletes its rows (`ChangesTablesBy`, which is vacuous if the database
--- does not contain all these tables). The call is a step of its connection (`IsConnectionStep`), so
--- under the disk assumption it commits nothing, and leaves an open transaction open if it succeeds.
+-- A step of the connection (`IsConnectionStep`): if the call succeeds, it changes the records of the
+-- program's tables from `t` to `f t`, for all `t`, and no other table, unless a foreign key of that
+-- table changes or deletes its rows (`ChangesTablesBy`, which is vacuous if the database does not
+-- contain all these tables).
 abbrev pub WritesTables : {W T S V E : Type 0} → ProgramTables W T → Ghosts S → Transaction S → Transaction S → Result V E → (T → T) → Type 0
 WritesTables desk g old new result f = IsConnectionStep g old new result (λ _ a b. ChangesTablesBy desk f a.now b.now)
 
--- Under the disk assumption and within a transaction: if the call succeeds, the database was open
--- and is unchanged, and `Matches` relates the returned value to the records of the program's
--- tables. The last part is vacuous if the database does not contain all these tables. The call is a
--- step of its connection (`IsConnectionStep`), so under the disk assumption it commits nothing, and
--- leaves an open transaction open if it succeeds.
+-- A step of the connection (`IsConnectionStep`): if the call succeeds, the database was open and is
+-- unchanged, and `Matches` relates the returned value to the records of the program's tables
+-- (`IsUnchangedAndSatisfies`).
 abbrev pub ReadsTables : {W T S V E : Type 0} → ProgramTables W T → Ghosts S → Transaction S → Transaction S → Result V E → (V → T → Type 0) → Type 0
 ReadsTables desk g old new result Matches = IsConnectionStep g old new result (λ v. IsUnchangedAndSatisfies desk (Matches v))

@@ -17,7 +17,7 @@ use Rattle.sqlite_resolve.specs.declared.error.CompileError.TheVariants.{Mismatc
 use Rattle.sqlite_draft.specs.declared.join.Step.TheVariants.{Inner}
 use Rattle.sqlite_draft.specs.declared.query.Draft.{Draft}
 use Rattle.sqlite_tied.specs.Compute.{everything}
-use Rattle.brk_tables_sql.specs.Partly.{sql_lowering_definitions}
+use Rattle.brk_tables_sql.proofs.Partly.{sql_lowering_definitions}
 use Rattle.brk_tables_sql.specs.Desk.{integer_column, IsTableAt}
 use Rattle.brk_tables_sql.proofs.Meant.{meant, updates_or}
 use Rattle.brk_tables_sql.proofs.Pick.{selection, whole_page}

@@ -1,9 +1,8 @@
-ghost use Rattle.std.specs.Prelude.{◌≡◌, Err, OnErr};
-ghost use Rattle.brk_money.specs.declared.fault.Fault.TheVariants.{Store};
+ghost use Rattle.std.specs.Prelude.{◌≡◌};
 ghost use Rattle.brk_trade_rows.specs.Changes.{tables_with_balance};
 ghost use Rattle.brk_tables_schema.specs.Statements.{WritesDeskTables};
 
-use brk_money::{Cents, Fault, Id};
+use brk_money::{Cents, Id, StoreFailed};
 use brk_tables_schema::calls::execute_statement;
 use brk_tables_schema::values::{cents_param, id_param};
 use sqlite::{Alter, Transaction};
@@ -13,10 +12,9 @@ pub fn set_account_balance<S: Alter>(
     tx: &mut Transaction<'_, S>,
     account: Id,
     balance: Cents,
-) -> Result<(), Fault>
+) -> Result<(), StoreFailed>
     ensures same_reference { tx.new.conn.ghost_name ≡ tx.old.conn.ghost_name }
     ensures step { WritesDeskTables S.Store tx.old tx.new result (tables_with_balance account balance) }
-    ensures fault { OnErr result (result ≡ Err Store) }
 {
     execute_statement(
         tx,

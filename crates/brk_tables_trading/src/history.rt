@@ -1,10 +1,9 @@
-ghost use Rattle.std.specs.Prelude.{◌≡◌, Err, OnErr};
-ghost use Rattle.brk_money.specs.declared.fault.Fault.TheVariants.{Store};
+ghost use Rattle.std.specs.Prelude.{◌≡◌};
 ghost use Rattle.brk_trade_rows.specs.Changes.{tables_with_history_row};
 ghost use Rattle.brk_ref.specs.Rows.{abstract_history_row};
 ghost use Rattle.brk_tables_schema.specs.Statements.{WritesDeskTables};
 
-use brk_money::Fault;
+use brk_money::StoreFailed;
 use brk_ref::HistoryRow;
 use brk_tables_schema::calls::execute_statement;
 use brk_tables_schema::values::{id_param, stamp_param, status_param};
@@ -14,10 +13,9 @@ use sqlite::{Alter, Transaction};
 pub fn add_trade_history_row<S: Alter>(
     tx: &mut Transaction<'_, S>,
     mark: &HistoryRow,
-) -> Result<(), Fault>
+) -> Result<(), StoreFailed>
     ensures same_reference { tx.new.conn.ghost_name ≡ tx.old.conn.ghost_name }
     ensures step { WritesDeskTables S.Store tx.old tx.new result (tables_with_history_row (abstract_history_row mark.now)) }
-    ensures fault { OnErr result (result ≡ Err Store) }
 {
     execute_statement(
         tx,

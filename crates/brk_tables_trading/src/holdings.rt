@@ -1,17 +1,15 @@
 //! Reads of the holdings of accounts: of their lots (HOLDING), and of the number of shares of each
 //! security in total (HOLDING_SUMMARY).
 
-ghost use Rattle.std.specs.Prelude.{◌≡◌, ◌==◌, ◌&&◌, Err, IfErr, OnErr, bytes_eq, map, pos, reverse};
+ghost use Rattle.std.specs.Prelude.{◌≡◌, ◌==◌, ◌&&◌, bytes_eq, map, pos, reverse};
 ghost use Rattle.sqlite_value.specs.Value.{owned};
 ghost use Rattle.sqlite_value.specs.declared.value.Value.TheVariants.{Int};
-ghost use Rattle.brk_money.specs.declared.fault.Fault.TheVariants.{Store};
-ghost use Rattle.brk_model.specs.Run.{IsCallFault};
 ghost use Rattle.brk_ref.specs.Rows.{abstract_holding_row, abstract_summary_row};
 ghost use Rattle.brk_tables_schema.specs.Desk.{Holdings, Summaries};
 ghost use Rattle.brk_tables_schema.specs.Statements.{ReadsFirstMatch, ReadsMatchingRows, ReadsDeskTables};
 ghost use Rattle.brk_tables_trading.specs.Pages.{position_lots_by_age, page_after_skipped};
 
-use brk_money::{Fault, Id};
+use brk_money::{CallFault, Id, StoreFailed};
 use brk_ref::{HoldingRow, SummaryRow, Symbol};
 use brk_tables_schema::calls::select_rows;
 use brk_tables_schema::record::{decode_first_row, decode_rows};
@@ -34,11 +32,10 @@ pub fn oldest_lots<S: Alter>(
     account: Id,
     symbol: &Symbol,
     skipped: u32,
-) -> Result<Vec<HoldingRow>, Fault>
+) -> Result<Vec<HoldingRow>, CallFault>
     ensures same_reference { tx.new.conn.ghost_name ≡ tx.old.conn.ghost_name }
     ensures step { ReadsDeskTables S.Store tx.old tx.new result (λ all t. map abstract_holding_row all.items
         ≡ page_after_skipped skipped (position_lots_by_age account symbol.now t)) }
-    ensures fault { IfErr result IsCallFault }
 {
     let rows = select_rows(
         tx,
@@ -60,11 +57,10 @@ pub fn newest_lots<S: Alter>(
     account: Id,
     symbol: &Symbol,
     skipped: u32,
-) -> Result<Vec<HoldingRow>, Fault>
+) -> Result<Vec<HoldingRow>, CallFault>
     ensures same_reference { tx.new.conn.ghost_name ≡ tx.old.conn.ghost_name }
     ensures step { ReadsDeskTables S.Store tx.old tx.new result (λ all t. map abstract_holding_row all.items
         ≡ page_after_skipped skipped (reverse (position_lots_by_age account symbol.now t))) }
-    ensures fault { IfErr result IsCallFault }
 {
     let rows = select_rows(
         tx,
@@ -84,10 +80,9 @@ pub fn newest_lots<S: Alter>(
 pub fn lot_by_trade<S: Alter>(
     tx: &mut Transaction<'_, S>,
     trade: Id,
-) -> Result<Option<HoldingRow>, Fault>
+) -> Result<Option<HoldingRow>, StoreFailed>
     ensures same_reference { tx.new.conn.ghost_name ≡ tx.old.conn.ghost_name }
     ensures step { ReadsFirstMatch S.Store tx.old tx.new result Holdings abstract_holding_row (λ r. r.trade == trade) }
-    ensures fault { OnErr result (result ≡ Err Store) }
 {
     let rows = select_rows(
         tx,
@@ -101,10 +96,9 @@ pub fn lot_by_trade<S: Alter>(
 pub fn all_lots<S: Alter>(
     tx: &mut Transaction<'_, S>,
     alloc: Global,
-) -> Result<Vec<HoldingRow>, Fault>
+) -> Result<Vec<HoldingRow>, CallFault>
     ensures same_reference { tx.new.conn.ghost_name ≡ tx.old.conn.ghost_name }
     ensures step { ReadsDeskTables S.Store tx.old tx.new result (λ all t. map abstract_holding_row all.items ≡ t.holdings) }
-    ensures fault { IfErr result IsCallFault }
 {
     let rows = select_rows(
         tx,
@@ -120,10 +114,9 @@ pub fn account_summaries<S: Alter>(
     tx: &mut Transaction<'_, S>,
     alloc: Global,
     account: Id,
-) -> Result<Vec<SummaryRow>, Fault>
+) -> Result<Vec<SummaryRow>, CallFault>
     ensures same_reference { tx.new.conn.ghost_name ≡ tx.old.conn.ghost_name }
     ensures step { ReadsMatchingRows S.Store tx.old tx.new result Summaries abstract_summary_row (λ r. r.account == account) }
-    ensures fault { IfErr result IsCallFault }
 {
     let rows = select_rows(
         tx,
@@ -137,10 +130,9 @@ pub fn position_summary<S: Alter>(
     tx: &mut Transaction<'_, S>,
     account: Id,
     symbol: &Symbol,
-) -> Result<Option<SummaryRow>, Fault>
+) -> Result<Option<SummaryRow>, StoreFailed>
     ensures same_reference { tx.new.conn.ghost_name ≡ tx.old.conn.ghost_name }
     ensures step { ReadsFirstMatch S.Store tx.old tx.new result Summaries abstract_summary_row (λ r. (r.account == account) && bytes_eq r.symbol symbol.now) }
-    ensures fault { OnErr result (result ≡ Err Store) }
 {
     let rows = select_rows(
         tx,

@@ -1,22 +1,20 @@
 //! Writes of the lots of accounts (HOLDING), and of their changes by trades (HOLDING_HISTORY).
 
-ghost use Rattle.std.specs.Prelude.{◌≡◌, Err, OnErr};
-ghost use Rattle.brk_money.specs.declared.fault.Fault.TheVariants.{Store};
+ghost use Rattle.std.specs.Prelude.{◌≡◌};
 ghost use Rattle.brk_trade_rows.specs.Changes.{tables_with_lot, tables_with_lot_change, tables_with_lot_quantity, tables_without_lot};
 ghost use Rattle.brk_ref.specs.Rows.{abstract_holding_row, abstract_lot_change_row};
 ghost use Rattle.brk_tables_schema.specs.Statements.{WritesDeskTables};
 
-use brk_money::{Fault, Id};
+use brk_money::{Id, StoreFailed};
 use brk_ref::{HoldingRow, LotChange};
 use brk_tables_schema::calls::execute_statement;
 use brk_tables_schema::values::{id_param, integer_param, price_param, stamp_param, text_param};
 use sqlite::{Alter, Transaction};
 
 /// Inserts the lot that a trade opened (HOLDING).
-pub fn add_lot<S: Alter>(tx: &mut Transaction<'_, S>, lot: &HoldingRow) -> Result<(), Fault>
+pub fn add_lot<S: Alter>(tx: &mut Transaction<'_, S>, lot: &HoldingRow) -> Result<(), StoreFailed>
     ensures same_reference { tx.new.conn.ghost_name ≡ tx.old.conn.ghost_name }
     ensures step { WritesDeskTables S.Store tx.old tx.new result (tables_with_lot (abstract_holding_row lot.now)) }
-    ensures fault { OnErr result (result ≡ Err Store) }
 {
     execute_statement(
         tx,
@@ -38,10 +36,9 @@ pub fn set_lot_quantity<S: Alter>(
     tx: &mut Transaction<'_, S>,
     trade: Id,
     qty: i64,
-) -> Result<(), Fault>
+) -> Result<(), StoreFailed>
     ensures same_reference { tx.new.conn.ghost_name ≡ tx.old.conn.ghost_name }
     ensures step { WritesDeskTables S.Store tx.old tx.new result (tables_with_lot_quantity trade qty) }
-    ensures fault { OnErr result (result ≡ Err Store) }
 {
     execute_statement(
         tx,
@@ -51,10 +48,9 @@ pub fn set_lot_quantity<S: Alter>(
 }
 
 /// Deletes the lot that a trade opened.
-pub fn remove_lot<S: Alter>(tx: &mut Transaction<'_, S>, trade: Id) -> Result<(), Fault>
+pub fn remove_lot<S: Alter>(tx: &mut Transaction<'_, S>, trade: Id) -> Result<(), StoreFailed>
     ensures same_reference { tx.new.conn.ghost_name ≡ tx.old.conn.ghost_name }
     ensures step { WritesDeskTables S.Store tx.old tx.new result (tables_without_lot trade) }
-    ensures fault { OnErr result (result ≡ Err Store) }
 {
     execute_statement(
         tx,
@@ -68,10 +64,9 @@ pub fn remove_lot<S: Alter>(tx: &mut Transaction<'_, S>, trade: Id) -> Result<()
 pub fn add_lot_change<S: Alter>(
     tx: &mut Transaction<'_, S>,
     change: &LotChange,
-) -> Result<(), Fault>
+) -> Result<(), StoreFailed>
     ensures same_reference { tx.new.conn.ghost_name ≡ tx.old.conn.ghost_name }
     ensures step { WritesDeskTables S.Store tx.old tx.new result (tables_with_lot_change (abstract_lot_change_row change.now)) }
-    ensures fault { OnErr result (result ≡ Err Store) }
 {
     execute_statement(
         tx,

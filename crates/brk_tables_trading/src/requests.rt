@@ -1,13 +1,11 @@
-ghost use Rattle.std.specs.Prelude.{◌≡◌, ◌&&◌, Err, IfErr, OnErr, bytes_eq, nat_le};
+ghost use Rattle.std.specs.Prelude.{◌≡◌, ◌&&◌, bytes_eq, nat_le};
 ghost use Rattle.brk_money.specs.Kinds.{is_same_trade_type};
-ghost use Rattle.brk_money.specs.declared.fault.Fault.TheVariants.{Store};
-ghost use Rattle.brk_model.specs.Run.{IsCallFault};
 ghost use Rattle.brk_trade_rows.specs.Changes.{tables_with_request, tables_without_request};
 ghost use Rattle.brk_ref.specs.Rows.{abstract_request_row};
 ghost use Rattle.brk_tables_schema.specs.Desk.{Requests};
 ghost use Rattle.brk_tables_schema.specs.Statements.{ReadsMatchingRows, WritesDeskTables};
 
-use brk_money::{Fault, Id, Price, TradeType};
+use brk_money::{CallFault, Id, Price, StoreFailed, TradeType};
 use brk_ref::{RequestRow, Symbol};
 use brk_tables_schema::calls::{execute_statement, select_rows};
 use brk_tables_schema::record::decode_rows;
@@ -16,10 +14,12 @@ use sqlite::{Alter, Transaction};
 use std::alloc::Global;
 
 /// Inserts the request of a pending trade (TRADE_REQUEST).
-pub fn add_request<S: Alter>(tx: &mut Transaction<'_, S>, request: &RequestRow) -> Result<(), Fault>
+pub fn add_request<S: Alter>(
+    tx: &mut Transaction<'_, S>,
+    request: &RequestRow,
+) -> Result<(), StoreFailed>
     ensures same_reference { tx.new.conn.ghost_name ≡ tx.old.conn.ghost_name }
     ensures step { WritesDeskTables S.Store tx.old tx.new result (tables_with_request (abstract_request_row request.now)) }
-    ensures fault { OnErr result (result ≡ Err Store) }
 {
     execute_statement(
         tx,
@@ -35,10 +35,9 @@ pub fn add_request<S: Alter>(tx: &mut Transaction<'_, S>, request: &RequestRow) 
     )
 }
 
-pub fn remove_request<S: Alter>(tx: &mut Transaction<'_, S>, trade: Id) -> Result<(), Fault>
+pub fn remove_request<S: Alter>(tx: &mut Transaction<'_, S>, trade: Id) -> Result<(), StoreFailed>
     ensures same_reference { tx.new.conn.ghost_name ≡ tx.old.conn.ghost_name }
     ensures step { WritesDeskTables S.Store tx.old tx.new result (tables_without_request trade) }
-    ensures fault { OnErr result (result ≡ Err Store) }
 {
     execute_statement(
         tx,
@@ -55,11 +54,10 @@ pub fn requests_at_least<S: Alter>(
     symbol: &Symbol,
     kind: TradeType,
     price: Price,
-) -> Result<Vec<RequestRow>, Fault>
+) -> Result<Vec<RequestRow>, CallFault>
     ensures same_reference { tx.new.conn.ghost_name ≡ tx.old.conn.ghost_name }
     ensures step { ReadsMatchingRows S.Store tx.old tx.new result Requests abstract_request_row (λ r. bytes_eq r.symbol symbol.now
         && (is_same_trade_type r.kind kind && nat_le price r.bid)) }
-    ensures fault { IfErr result IsCallFault }
 {
     let rows = select_rows(
         tx,
@@ -83,11 +81,10 @@ pub fn requests_at_most<S: Alter>(
     symbol: &Symbol,
     kind: TradeType,
     price: Price,
-) -> Result<Vec<RequestRow>, Fault>
+) -> Result<Vec<RequestRow>, CallFault>
     ensures same_reference { tx.new.conn.ghost_name ≡ tx.old.conn.ghost_name }
     ensures step { ReadsMatchingRows S.Store tx.old tx.new result Requests abstract_request_row (λ r. bytes_eq r.symbol symbol.now
         && (is_same_trade_type r.kind kind && nat_le r.bid price)) }
-    ensures fault { IfErr result IsCallFault }
 {
     let rows = select_rows(
         tx,

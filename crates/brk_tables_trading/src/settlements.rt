@@ -1,12 +1,11 @@
 //! The settlements of completed trades.
 
-ghost use Rattle.std.specs.Prelude.{◌≡◌, Err, OnErr};
-ghost use Rattle.brk_money.specs.declared.fault.Fault.TheVariants.{Store};
+ghost use Rattle.std.specs.Prelude.{◌≡◌};
 ghost use Rattle.brk_trade_rows.specs.Changes.{tables_with_settlement};
 ghost use Rattle.brk_ref.specs.Rows.{abstract_settlement_row};
 ghost use Rattle.brk_tables_schema.specs.Statements.{WritesDeskTables};
 
-use brk_money::Fault;
+use brk_money::StoreFailed;
 use brk_ref::SettlementRow;
 use brk_tables_schema::calls::execute_statement;
 use brk_tables_schema::values::{cash_type_param, cents_param, day_param, id_param};
@@ -16,10 +15,9 @@ use sqlite::{Alter, Transaction};
 pub fn add_settlement<S: Alter>(
     tx: &mut Transaction<'_, S>,
     settlement: &SettlementRow,
-) -> Result<(), Fault>
+) -> Result<(), StoreFailed>
     ensures same_reference { tx.new.conn.ghost_name ≡ tx.old.conn.ghost_name }
     ensures step { WritesDeskTables S.Store tx.old tx.new result (tables_with_settlement (abstract_settlement_row settlement.now)) }
-    ensures fault { OnErr result (result ≡ Err Store) }
 {
     execute_statement(
         tx,

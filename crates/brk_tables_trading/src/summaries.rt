@@ -1,13 +1,12 @@
 //! Writes of holding summaries (HOLDING_SUMMARY): the number of shares of each security that an
 //! account holds in total.
 
-ghost use Rattle.std.specs.Prelude.{◌≡◌, Err, OnErr};
-ghost use Rattle.brk_money.specs.declared.fault.Fault.TheVariants.{Store};
+ghost use Rattle.std.specs.Prelude.{◌≡◌};
 ghost use Rattle.brk_trade_rows.specs.Changes.{tables_with_summary, tables_with_summary_quantity, tables_without_summary};
 ghost use Rattle.brk_ref.specs.Rows.{abstract_summary_row};
 ghost use Rattle.brk_tables_schema.specs.Statements.{WritesDeskTables};
 
-use brk_money::{Fault, Id};
+use brk_money::{Id, StoreFailed};
 use brk_ref::{SummaryRow, Symbol};
 use brk_tables_schema::calls::execute_statement;
 use brk_tables_schema::values::{id_param, integer_param, text_param};
@@ -16,10 +15,9 @@ use sqlite::{Alter, Transaction};
 pub fn add_holding_summary<S: Alter>(
     tx: &mut Transaction<'_, S>,
     summary: &SummaryRow,
-) -> Result<(), Fault>
+) -> Result<(), StoreFailed>
     ensures same_reference { tx.new.conn.ghost_name ≡ tx.old.conn.ghost_name }
     ensures step { WritesDeskTables S.Store tx.old tx.new result (tables_with_summary (abstract_summary_row summary.now)) }
-    ensures fault { OnErr result (result ≡ Err Store) }
 {
     execute_statement(
         tx,
@@ -36,10 +34,9 @@ pub fn add_holding_summary<S: Alter>(
 pub fn set_summary_quantity<S: Alter>(
     tx: &mut Transaction<'_, S>,
     summary: &SummaryRow,
-) -> Result<(), Fault>
+) -> Result<(), StoreFailed>
     ensures same_reference { tx.new.conn.ghost_name ≡ tx.old.conn.ghost_name }
     ensures step { WritesDeskTables S.Store tx.old tx.new result (tables_with_summary_quantity (abstract_summary_row summary.now)) }
-    ensures fault { OnErr result (result ≡ Err Store) }
 {
     execute_statement(
         tx,
@@ -56,10 +53,9 @@ pub fn remove_holding_summary<S: Alter>(
     tx: &mut Transaction<'_, S>,
     account: Id,
     symbol: &Symbol,
-) -> Result<(), Fault>
+) -> Result<(), StoreFailed>
     ensures same_reference { tx.new.conn.ghost_name ≡ tx.old.conn.ghost_name }
     ensures step { WritesDeskTables S.Store tx.old tx.new result (tables_without_summary account symbol.now) }
-    ensures fault { OnErr result (result ≡ Err Store) }
 {
     execute_statement(
         tx,

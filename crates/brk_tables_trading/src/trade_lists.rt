@@ -1,14 +1,13 @@
 //! Reads for the views of an account: the most recent trades of the account, and the statuses that
 //! a trade reached.
 
-ghost use Rattle.std.specs.Prelude.{◌≡◌, ◌==◌, IfErr, map, take};
+ghost use Rattle.std.specs.Prelude.{◌≡◌, ◌==◌, map, take};
 ghost use Rattle.brk_model.specs.Joins.{trade_rows_recent_first, trade_rows_of_account};
-ghost use Rattle.brk_model.specs.Run.{IsCallFault};
 ghost use Rattle.brk_ref.specs.Rows.{abstract_history_row, abstract_trade_row};
 ghost use Rattle.brk_tables_schema.specs.Desk.{TradeHistory};
 ghost use Rattle.brk_tables_schema.specs.Statements.{ReadsMatchingRows, ReadsDeskTables};
 
-use brk_money::{Fault, Id};
+use brk_money::{CallFault, Id};
 use brk_ref::{HistoryRow, TradeRow};
 use brk_tables_schema::calls::select_rows;
 use brk_tables_schema::record::decode_rows;
@@ -22,11 +21,10 @@ pub fn last_ten_trades<S: Alter>(
     tx: &mut Transaction<'_, S>,
     alloc: Global,
     account: Id,
-) -> Result<Vec<TradeRow>, Fault>
+) -> Result<Vec<TradeRow>, CallFault>
     ensures same_reference { tx.new.conn.ghost_name ≡ tx.old.conn.ghost_name }
     ensures step { ReadsDeskTables S.Store tx.old tx.new result (λ all t. map abstract_trade_row all.items
         ≡ take 10 (trade_rows_recent_first (trade_rows_of_account t account))) }
-    ensures fault { IfErr result IsCallFault }
 {
     let rows = select_rows(
         tx,
@@ -44,11 +42,10 @@ pub fn last_fifty_trades<S: Alter>(
     tx: &mut Transaction<'_, S>,
     alloc: Global,
     account: Id,
-) -> Result<Vec<TradeRow>, Fault>
+) -> Result<Vec<TradeRow>, CallFault>
     ensures same_reference { tx.new.conn.ghost_name ≡ tx.old.conn.ghost_name }
     ensures step { ReadsDeskTables S.Store tx.old tx.new result (λ all t. map abstract_trade_row all.items
         ≡ take 50 (trade_rows_recent_first (trade_rows_of_account t account))) }
-    ensures fault { IfErr result IsCallFault }
 {
     let rows = select_rows(
         tx,
@@ -66,10 +63,9 @@ pub fn history_of_trade<S: Alter>(
     tx: &mut Transaction<'_, S>,
     alloc: Global,
     trade: Id,
-) -> Result<Vec<HistoryRow>, Fault>
+) -> Result<Vec<HistoryRow>, CallFault>
     ensures same_reference { tx.new.conn.ghost_name ≡ tx.old.conn.ghost_name }
     ensures step { ReadsMatchingRows S.Store tx.old tx.new result TradeHistory abstract_history_row (λ r. r.trade == trade) }
-    ensures fault { IfErr result IsCallFault }
 {
     let rows = select_rows(
         tx,

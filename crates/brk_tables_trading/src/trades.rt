@@ -1,14 +1,12 @@
-ghost use Rattle.std.specs.Prelude.{◌≡◌, ◌==◌, Err, IfErr, OnErr, option_map, reverse, slice_get};
+ghost use Rattle.std.specs.Prelude.{◌≡◌, ◌==◌, option_map, reverse, slice_get};
 ghost use Rattle.brk_money.specs.Kinds.{is_same_trade_status};
-ghost use Rattle.brk_money.specs.declared.fault.Fault.TheVariants.{Store};
 ghost use Rattle.brk_money.specs.declared.status.Status.TheVariants.{Submitted};
-ghost use Rattle.brk_model.specs.Run.{IsCallFault};
 ghost use Rattle.brk_trade_rows.specs.Changes.{tables_with_trade_completed, tables_with_trade_status, tables_with_trade};
 ghost use Rattle.brk_ref.specs.Rows.{abstract_trade_row};
 ghost use Rattle.brk_tables_schema.specs.Desk.{Trades};
 ghost use Rattle.brk_tables_schema.specs.Statements.{ReadsFirstMatch, ReadsMatchingRows, ReadsDeskTables, WritesDeskTables};
 
-use brk_money::{Fault, Id, Price, Stamp, Status};
+use brk_money::{CallFault, Id, Price, Stamp, Status, StoreFailed};
 use brk_ref::TradeRow;
 use brk_tables_schema::calls::{execute_statement, select_rows};
 use brk_tables_schema::record::{decode_first_row, decode_rows};
@@ -20,10 +18,9 @@ use brk_trade_rows::Amount;
 use sqlite::{Alter, Transaction};
 use std::alloc::Global;
 
-pub fn add_trade<S: Alter>(tx: &mut Transaction<'_, S>, trade: &TradeRow) -> Result<(), Fault>
+pub fn add_trade<S: Alter>(tx: &mut Transaction<'_, S>, trade: &TradeRow) -> Result<(), StoreFailed>
     ensures same_reference { tx.new.conn.ghost_name ≡ tx.old.conn.ghost_name }
     ensures step { WritesDeskTables S.Store tx.old tx.new result (tables_with_trade (abstract_trade_row trade.now)) }
-    ensures fault { OnErr result (result ≡ Err Store) }
 {
     execute_statement(
         tx,
@@ -57,10 +54,9 @@ pub fn set_trade_status<S: Alter>(
     id: Id,
     status: Status,
     stamp: Stamp,
-) -> Result<(), Fault>
+) -> Result<(), StoreFailed>
     ensures same_reference { tx.new.conn.ghost_name ≡ tx.old.conn.ghost_name }
     ensures step { WritesDeskTables S.Store tx.old tx.new result (tables_with_trade_status id status stamp) }
-    ensures fault { OnErr result (result ≡ Err Store) }
 {
     execute_statement(
         tx,
@@ -78,10 +74,9 @@ pub fn complete_trade<S: Alter>(
     price: Price,
     commission: Amount,
     tax: Amount,
-) -> Result<(), Fault>
+) -> Result<(), StoreFailed>
     ensures same_reference { tx.new.conn.ghost_name ≡ tx.old.conn.ghost_name }
     ensures step { WritesDeskTables S.Store tx.old tx.new result (tables_with_trade_completed trade stamp price commission tax) }
-    ensures fault { OnErr result (result ≡ Err Store) }
 {
     execute_statement(
         tx,
@@ -97,10 +92,12 @@ pub fn complete_trade<S: Alter>(
     )
 }
 
-pub fn trade_by_id<S: Alter>(tx: &mut Transaction<'_, S>, id: Id) -> Result<Option<TradeRow>, Fault>
+pub fn trade_by_id<S: Alter>(
+    tx: &mut Transaction<'_, S>,
+    id: Id,
+) -> Result<Option<TradeRow>, StoreFailed>
     ensures same_reference { tx.new.conn.ghost_name ≡ tx.old.conn.ghost_name }
     ensures step { ReadsFirstMatch S.Store tx.old tx.new result Trades abstract_trade_row (λ r. r.id == id) }
-    ensures fault { OnErr result (result ≡ Err Store) }
 {
     let rows = select_rows(
         tx,
@@ -112,10 +109,9 @@ pub fn trade_by_id<S: Alter>(tx: &mut Transaction<'_, S>, id: Id) -> Result<Opti
     decode_first_row(&rows)
 }
 
-pub fn greatest_trade_id<S: Alter>(tx: &mut Transaction<'_, S>) -> Result<Option<Id>, Fault>
+pub fn greatest_trade_id<S: Alter>(tx: &mut Transaction<'_, S>) -> Result<Option<Id>, StoreFailed>
     ensures same_reference { tx.new.conn.ghost_name ≡ tx.old.conn.ghost_name }
     ensures step { ReadsDeskTables S.Store tx.old tx.new result (λ o t. o ≡ option_map (λ r. r.id) (slice_get (reverse t.trades) 0)) }
-    ensures fault { OnErr result (result ≡ Err Store) }
 {
     let rows = select_rows(tx, "SELECT T_ID FROM TRADE ORDER BY T_ID DESC LIMIT 1", &[])?;
     decode_first_row(&rows)
@@ -125,10 +121,9 @@ pub fn greatest_trade_id<S: Alter>(tx: &mut Transaction<'_, S>) -> Result<Option
 pub fn submitted_trades<S: Alter>(
     tx: &mut Transaction<'_, S>,
     alloc: Global,
-) -> Result<Vec<TradeRow>, Fault>
+) -> Result<Vec<TradeRow>, CallFault>
     ensures same_reference { tx.new.conn.ghost_name ≡ tx.old.conn.ghost_name }
     ensures step { ReadsMatchingRows S.Store tx.old tx.new result Trades abstract_trade_row (λ r. is_same_trade_status r.status Submitted) }
-    ensures fault { IfErr result IsCallFault }
 {
     let rows = select_rows(
         tx,

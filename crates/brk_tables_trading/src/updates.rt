@@ -1,15 +1,13 @@
 //! Text updates of trades: the reads of the selected trades and of their texts, and the writes.
 
-ghost use Rattle.std.specs.Prelude.{◌≡◌, ◌==◌, Err, IfErr, OnErr, map};
-ghost use Rattle.brk_money.specs.declared.fault.Fault.TheVariants.{Store};
-ghost use Rattle.brk_model.specs.Run.{IsCallFault};
+ghost use Rattle.std.specs.Prelude.{◌≡◌, ◌==◌, map};
 ghost use Rattle.brk_trade_rows.specs.Changes.{tables_with_cash_type, tables_with_executor_name};
 ghost use Rattle.brk_trade_rows.specs.Chosen as chosen;
 ghost use Rattle.brk_ref.specs.Rows.{cash_type_text, abstract_settlement_row, abstract_trade_row};
 ghost use Rattle.brk_tables_schema.specs.Desk.{Settlements};
 ghost use Rattle.brk_tables_schema.specs.Statements.{ReadsFirstMatch, ReadsDeskTables, WritesDeskTables};
 
-use brk_money::{Fault, Id, Stamp, Status};
+use brk_money::{CallFault, Id, Stamp, Status, StoreFailed};
 use brk_ref::{CashType, SettlementRow, Symbol, TradeRow};
 use brk_tables_schema::calls::{execute_statement, select_rows};
 use brk_tables_schema::record::{decode_first_row, decode_rows};
@@ -28,11 +26,10 @@ pub fn completed_trades_of_account<S: Alter>(
     account: Id,
     first: Stamp,
     last: Stamp,
-) -> Result<Vec<TradeRow>, Fault>
+) -> Result<Vec<TradeRow>, CallFault>
     ensures same_reference { tx.new.conn.ghost_name ≡ tx.old.conn.ghost_name }
     ensures step { ReadsDeskTables S.Store tx.old tx.new result (λ all t. map abstract_trade_row all.items
         ≡ chosen.first_twenty_completed_trade_rows_of_account account first last t) }
-    ensures fault { IfErr result IsCallFault }
 {
     let rows = select_rows(
         tx,
@@ -59,11 +56,10 @@ pub fn completed_cash_trades_of_symbol<S: Alter>(
     symbol: &Symbol,
     first: Stamp,
     last: Stamp,
-) -> Result<Vec<TradeRow>, Fault>
+) -> Result<Vec<TradeRow>, CallFault>
     ensures same_reference { tx.new.conn.ghost_name ≡ tx.old.conn.ghost_name }
     ensures step { ReadsDeskTables S.Store tx.old tx.new result (λ all t. map abstract_trade_row all.items
         ≡ chosen.first_twenty_completed_cash_trade_rows_of_symbol symbol.now first last t) }
-    ensures fault { IfErr result IsCallFault }
 {
     let rows = select_rows(
         tx,
@@ -85,10 +81,9 @@ pub fn completed_cash_trades_of_symbol<S: Alter>(
 pub fn settlement_by_trade<S: Alter>(
     tx: &mut Transaction<'_, S>,
     trade: Id,
-) -> Result<Option<SettlementRow>, Fault>
+) -> Result<Option<SettlementRow>, StoreFailed>
     ensures same_reference { tx.new.conn.ghost_name ≡ tx.old.conn.ghost_name }
     ensures step { ReadsFirstMatch S.Store tx.old tx.new result Settlements abstract_settlement_row (λ r. r.trade == trade) }
-    ensures fault { OnErr result (result ≡ Err Store) }
 {
     let rows = select_rows(
         tx,
@@ -103,10 +98,9 @@ pub fn set_executor<S: Alter>(
     tx: &mut Transaction<'_, S>,
     trade: Id,
     executor: &str,
-) -> Result<(), Fault>
+) -> Result<(), StoreFailed>
     ensures same_reference { tx.new.conn.ghost_name ≡ tx.old.conn.ghost_name }
     ensures step { WritesDeskTables S.Store tx.old tx.new result (tables_with_executor_name trade executor.now) }
-    ensures fault { OnErr result (result ≡ Err Store) }
 {
     execute_statement(
         tx,
@@ -120,10 +114,9 @@ pub fn set_cash_type<S: Alter>(
     tx: &mut Transaction<'_, S>,
     trade: Id,
     cash_type: CashType,
-) -> Result<(), Fault>
+) -> Result<(), StoreFailed>
     ensures same_reference { tx.new.conn.ghost_name ≡ tx.old.conn.ghost_name }
     ensures step { WritesDeskTables S.Store tx.old tx.new result (tables_with_cash_type trade (cash_type_text cash_type)) }
-    ensures fault { OnErr result (result ≡ Err Store) }
 {
     execute_statement(
         tx,

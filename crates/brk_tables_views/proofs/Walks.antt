@@ -39,7 +39,7 @@ module _ {X M : Type 0} (of : X → M) (cells : M → Row) (back : Row → M) (i
     breaks_off : (stop : WalkError E) → WalkEndsEarly (λ x. cells (of x)) takes stops sql params (state g old) before after stop
         → TableWalkEndsEarly (IsPrefixOfList (state g old) list) of takes stops before after stop
     breaks_off (Cause e) h = (h.records, h.next, h.at, h.taken, h.stopped, are_first (h.records ++ h.next ∷ []) (inr (h.is_open, h.begins)))
-    breaks_off (Failed fault) h = (h.0, (h.1.records, h.1.taken, are_first h.1.records h.1.begins))
+    breaks_off (Failed fault) h = (h.records, h.taken, are_first h.records h.begins)
 
     same_at : (IsTrue (state g old).is_open → (state g old).now ≡ (state g old).committed) → IsUnchanged (state g old) (state g new)
         ⊎ IsRolledBack (state g old) (state g new) → IsTrue (state g new).is_open

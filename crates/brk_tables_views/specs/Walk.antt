@@ -6,7 +6,6 @@ use Rattle.sqlite_resolve.specs.declared.compiled.Compiled.{Compiled}
 use Rattle.sqlite_value.specs.Order.{Row}
 use Rattle.sqlite.specs.Listing.{understood}
 use Rattle.sqlite.specs.State.{State, Shown, Begins}
-use Rattle.brk_model.specs.Run.{IsCallFault}
 use Rattle.brk_tables_views.specs.declared.walking.WalkError.{WalkError}
 use Rattle.brk_tables_views.specs.declared.walking.WalkError.TheVariants.{Failed, Cause}
 
@@ -15,10 +14,10 @@ use Rattle.brk_tables_views.specs.declared.walking.WalkError.TheVariants.{Failed
 abbrev pub HasNoReturningClause : List ℕ → Type 0
 HasNoReturningClause sql = (schema : Schema) (c : Compiled) → understood schema sql ≡ Ok c → c.returning ≡ None
 
--- The error is `Failed` with the fault `Memory` or `Store`, or it is `Cause` with the error with
--- which the visitor stopped at some record; `after` is the visitor after this stop.
+-- An error `Cause e` has the error `e` with which the visitor stopped at some record; `after` is
+-- the visitor after this stop.
 abbrev pub IsWalkError : {V X E : Type 0} → (V → X → E → V → Type 0) → V → WalkError E → Type 0
-IsWalkError stops after (Failed fault) = IsCallFault fault
+IsWalkError stops after (Failed fault) = Unit {0}
 IsWalkError {V} {X} stops after (Cause e) = (at : V) × (next : X) × stops at next e after
 
 module _ {V X : Type 0} (cells : X → Row) (takes : V → X → V → Type 0) where
@@ -49,9 +48,9 @@ module _ {V X : Type 0} (cells : X → Row) (takes : V → X → V → Type 0) w
     pub taken : FoldsTo takes old records at
     pub stopped : stops at next e new
 
-  -- The walk failed. At a fault, which is `Memory` or `Store`, the visitor had taken a prefix of
-  -- the records (`TakesPrefixOfRecords`). At the visitor's error it had stopped at a record of the
-  -- result (`StopsAtRecord`).
+  -- The walk failed. At a fault the visitor had taken a prefix of the records
+  -- (`TakesPrefixOfRecords`). At the visitor's error it had stopped at a record of the result
+  -- (`StopsAtRecord`).
   abbrev pub WalkEndsEarly : {E : Type 0} → (V → X → E → V → Type 0) → List ℕ → Row → State → V → V → WalkError E → Type 0
-  WalkEndsEarly stops sql params db old new (Failed fault) = IsCallFault fault × TakesPrefixOfRecords sql params db old new
+  WalkEndsEarly stops sql params db old new (Failed fault) = TakesPrefixOfRecords sql params db old new
   WalkEndsEarly stops sql params db old new (Cause e) = StopsAtRecord stops sql params db old e new

@@ -4,7 +4,6 @@ use Rattle.std.specs.List.{FoldsTo}
 use Rattle.sqlite_trees.specs.declared.store.Store.{Ghosts}
 use Rattle.sqlite.specs.Held.{Held, state}
 use Rattle.sqlite.specs.State.{State, HasCleanDisk, Survives}
-use Rattle.brk_model.specs.Run.{IsCallFault}
 use Rattle.brk_model.specs.Tables.{Tables}
 use Rattle.brk_tables_schema.specs.Made.{HasDeskTables}
 use Rattle.brk_tables_views.specs.Walk.{IsWalkError}
@@ -16,25 +15,22 @@ use Rattle.brk_tables_views.specs.declared.walking.WalkError.TheVariants.{Failed
 abbrev pub TakesListSatisfying : {X M V : Type 0} → (List M → Type 0) → (X → M) → (V → X → V → Type 0) → V → V → Type 0
 TakesListSatisfying {X} So of takes before after = (taken : List X) × FoldsTo takes before taken after × So (map of taken)
 
--- The walk failed; `before` and `after` are the visitor before and after it. At a fault, which is
--- `Memory` or `Store`, `Begins` holds for the list of the records that the visitor took, possibly
--- none. At the visitor's error `Begins` holds for the list of the records that it took, followed by
--- the one at which it stopped with this error. Each record of these lists is converted by `of`.
+-- The walk failed; `before` and `after` are the visitor before and after it. At a fault `Begins`
+-- holds for the list of the records that the visitor took, possibly none. At the visitor's error
+-- `Begins` holds for the list of the records that it took, followed by the one at which it stopped
+-- with this error. Each record of these lists is converted by `of`.
 abbrev pub TableWalkEndsEarly : {X M V E : Type 0} → (List M → Type 0) → (X → M) → (V → X → V → Type 0) → (V → X → E → V → Type 0) → V → V → WalkError E
     → Type 0
-TableWalkEndsEarly {X} Begins of takes stops before after (Failed fault) = IsCallFault fault × TakesListSatisfying Begins of takes before after
+TableWalkEndsEarly {X} Begins of takes stops before after (Failed fault) = TakesListSatisfying Begins of takes before after
 TableWalkEndsEarly {X} {M} {V} Begins of takes stops before after (Cause e) =
     (taken : List X) × (next : X) × (at : V) × FoldsTo takes before taken at × stops at next e after × Begins (map of (taken ++ next ∷ []))
 
 -- The database `db` is open, and the records `all` equal the list that `list` selects from the rows
--- of a desk's tables in `db`. The second part is vacuous if `db` does not contain all tables of a
--- desk in schema 3.
+-- of a desk's tables in `db`; vacuous if `db` does not contain all tables of a desk in schema 3.
 abbrev pub AreAllRecordsOfList : {M : Type 0} → State → (Tables → List M) → List M → Type 0
 AreAllRecordsOfList db list all = IsTrue db.is_open × ((t : Tables) → HasDeskTables t db.now → all ≡ list t)
 
--- The list `first` is empty; or the database `db` is open, and `first` is a prefix of the list that
--- `list` selects from the rows of a desk's tables in `db`. The last part is vacuous if `db` does
--- not contain all tables of a desk in schema 3.
+-- The list `first` is empty; or the database `db` is open, and `first` is a prefix of that list.
 abbrev pub IsPrefixOfList : {M : Type 0} → State → (Tables → List M) → List M → Type 0
 IsPrefixOfList {M} db list first = (first ≡ []) ⊎ (IsTrue db.is_open × ((t : Tables) → HasDeskTables t db.now → (rest : List M) × (first ++ rest ≡ list t)))
 
@@ -51,8 +47,7 @@ pub record TableWalkPost {S X M V E : Type 0} (g : Ghosts S) (old new : Held S) 
   pub all : HasCleanDisk (state g new) → OnOk result (TakesListSatisfying (AreAllRecordsOfList (state g old) list) of takes before after)
   -- At an error the visitor took a prefix of the list, possibly none (`TableWalkEndsEarly`).
   pub early : HasCleanDisk (state g new) → IfErr result (TableWalkEndsEarly (IsPrefixOfList (state g old) list) of takes stops before after)
-  -- The error is `Memory` or `Store`, or that of the visitor, whether or not the disk assumption
-  -- holds.
+  -- An error of the visitor is one at which it stopped, whether or not the disk assumption holds.
   pub fault : IfErr result (IsWalkError stops after)
   -- If the database is open after the walk, it was open before and is unchanged.
   pub unchanged_if_open : HasCleanDisk (state g new) → IsTrue (state g new).is_open

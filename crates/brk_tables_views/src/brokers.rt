@@ -1,13 +1,12 @@
 //! Brokers by name, which several brokers may share, all requests, and the accounts of a broker.
 
-ghost use Rattle.std.specs.Prelude.{◌≡◌, ◌==◌, IfErr, bytes_eq, filter, map};
-ghost use Rattle.brk_model.specs.Run.{IsCallFault};
+ghost use Rattle.std.specs.Prelude.{◌≡◌, ◌==◌, bytes_eq, filter, map};
 ghost use Rattle.brk_ref.specs.Records.{abstract_broker_row};
 ghost use Rattle.brk_ref.specs.Rows.{abstract_request_row};
 ghost use Rattle.brk_tables_schema.specs.Desk.{Brokers};
 ghost use Rattle.brk_tables_schema.specs.Statements.{ReadsMatchingRows, ReadsDeskTables};
 
-use brk_money::{Fault, Id};
+use brk_money::{CallFault, Id};
 use brk_ref::{BrokerRow, Name, RequestRow};
 use brk_tables_schema::calls::select_rows;
 use brk_tables_schema::record::decode_rows;
@@ -20,10 +19,9 @@ pub fn brokers_with_name<S: Alter>(
     tx: &mut Transaction<'_, S>,
     alloc: Global,
     name: &Name,
-) -> Result<Vec<BrokerRow>, Fault>
+) -> Result<Vec<BrokerRow>, CallFault>
     ensures same_reference { tx.new.conn.ghost_name ≡ tx.old.conn.ghost_name }
     ensures step { ReadsMatchingRows S.Store tx.old tx.new result Brokers abstract_broker_row (λ r. bytes_eq r.name name.now) }
-    ensures fault { IfErr result IsCallFault }
 {
     let rows = select_rows(
         tx,
@@ -37,10 +35,9 @@ pub fn brokers_with_name<S: Alter>(
 pub fn all_requests<S: Alter>(
     tx: &mut Transaction<'_, S>,
     alloc: Global,
-) -> Result<Vec<RequestRow>, Fault>
+) -> Result<Vec<RequestRow>, CallFault>
     ensures same_reference { tx.new.conn.ghost_name ≡ tx.old.conn.ghost_name }
     ensures step { ReadsDeskTables S.Store tx.old tx.new result (λ all t. map abstract_request_row all.items ≡ t.requests) }
-    ensures fault { IfErr result IsCallFault }
 {
     let rows = select_rows(
         tx,
@@ -55,10 +52,9 @@ pub fn account_ids_of_broker<S: Alter>(
     tx: &mut Transaction<'_, S>,
     alloc: Global,
     broker: Id,
-) -> Result<Vec<Id>, Fault>
+) -> Result<Vec<Id>, CallFault>
     ensures same_reference { tx.new.conn.ghost_name ≡ tx.old.conn.ghost_name }
     ensures step { ReadsDeskTables S.Store tx.old tx.new result (λ all t. all.items ≡ map (λ r. r.id) (filter (λ r. r.broker == broker) t.accounts)) }
-    ensures fault { IfErr result IsCallFault }
 {
     let rows = select_rows(
         tx,

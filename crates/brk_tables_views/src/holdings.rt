@@ -1,13 +1,12 @@
 //! The completed trades of a holding: of an account in a security.
 
-ghost use Rattle.std.specs.Prelude.{◌≡◌, ◌==◌, ◌&&◌, IfErr, bytes_eq, filter, map};
+ghost use Rattle.std.specs.Prelude.{◌≡◌, ◌==◌, ◌&&◌, bytes_eq, filter, map};
 ghost use Rattle.brk_model.specs.Joins.{trade_rows_oldest_first};
-ghost use Rattle.brk_model.specs.Run.{IsCallFault};
 ghost use Rattle.brk_money.specs.Kinds.{is_same_trade_status};
 ghost use Rattle.brk_money.specs.declared.status.Status.TheVariants.{Completed};
 ghost use Rattle.brk_tables_schema.specs.Statements.{ReadsDeskTables};
 
-use brk_money::{Fault, Id, Status};
+use brk_money::{CallFault, Id, Status};
 use brk_ref::Symbol;
 use brk_tables_schema::calls::select_rows;
 use brk_tables_schema::record::decode_rows;
@@ -22,13 +21,12 @@ pub fn completed_trade_ids<S: Alter>(
     alloc: Global,
     account: Id,
     symbol: &Symbol,
-) -> Result<Vec<Id>, Fault>
+) -> Result<Vec<Id>, CallFault>
     ensures same_reference { tx.new.conn.ghost_name ≡ tx.old.conn.ghost_name }
     ensures step { ReadsDeskTables S.Store tx.old tx.new result (λ all t.
         all.items
         ≡ map (λ r. r.id) (trade_rows_oldest_first (filter (λ r. (r.account == account)
         && (bytes_eq r.symbol symbol.now && is_same_trade_status r.status Completed)) t.trades))) }
-    ensures fault { IfErr result IsCallFault }
 {
     let rows = select_rows(
         tx,

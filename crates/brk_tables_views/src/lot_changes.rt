@@ -1,12 +1,11 @@
 //! Lot changes: rows of HOLDING_HISTORY, sorted by lot and then by trade.
 
-ghost use Rattle.std.specs.Prelude.{◌≡◌, ◌==◌, IfErr};
-ghost use Rattle.brk_model.specs.Run.{IsCallFault};
+ghost use Rattle.std.specs.Prelude.{◌≡◌, ◌==◌};
 ghost use Rattle.brk_ref.specs.Rows.{abstract_lot_change_row};
 ghost use Rattle.brk_tables_schema.specs.Desk.{HoldingHistory};
 ghost use Rattle.brk_tables_schema.specs.Statements.{ReadsMatchingRows};
 
-use brk_money::{Fault, Id};
+use brk_money::{CallFault, Id};
 use brk_ref::LotChange;
 use brk_tables_schema::calls::select_rows;
 use brk_tables_schema::record::decode_rows;
@@ -20,10 +19,9 @@ pub fn lot_changes_by_trade<S: Alter>(
     tx: &mut Transaction<'_, S>,
     alloc: Global,
     trade: Id,
-) -> Result<Vec<LotChange>, Fault>
+) -> Result<Vec<LotChange>, CallFault>
     ensures same_reference { tx.new.conn.ghost_name ≡ tx.old.conn.ghost_name }
     ensures step { ReadsMatchingRows S.Store tx.old tx.new result HoldingHistory abstract_lot_change_row (λ r. r.trade == trade) }
-    ensures fault { IfErr result IsCallFault }
 {
     let rows = select_rows(
         tx,
@@ -39,10 +37,9 @@ pub fn lot_changes_of_lot<S: Alter>(
     tx: &mut Transaction<'_, S>,
     alloc: Global,
     lot: Id,
-) -> Result<Vec<LotChange>, Fault>
+) -> Result<Vec<LotChange>, CallFault>
     ensures same_reference { tx.new.conn.ghost_name ≡ tx.old.conn.ghost_name }
     ensures step { ReadsMatchingRows S.Store tx.old tx.new result HoldingHistory abstract_lot_change_row (λ r. r.lot == lot) }
-    ensures fault { IfErr result IsCallFault }
 {
     let rows = select_rows(
         tx,

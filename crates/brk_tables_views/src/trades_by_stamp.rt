@@ -1,15 +1,13 @@
 //! Reads of trades of any status, sorted by the stamp of their last status change and then by id,
 //! both ascending.
 
-ghost use Rattle.std.specs.Prelude.{◌≡◌, ◌==◌, ◌&&◌, Err, IfErr, OnErr, bytes_eq, filter, map, nat_le, option_map, option_to_list, take};
-ghost use Rattle.brk_money.specs.declared.fault.Fault.TheVariants.{Store};
+ghost use Rattle.std.specs.Prelude.{◌≡◌, ◌==◌, ◌&&◌, bytes_eq, filter, map, nat_le, option_map, option_to_list, take};
 ghost use Rattle.brk_model.specs.Joins.{trade_rows_oldest_first, trade_rows_of_account};
 ghost use Rattle.brk_model.specs.LookupView.{row_stamp_is_between};
-ghost use Rattle.brk_model.specs.Run.{IsCallFault};
 ghost use Rattle.brk_ref.specs.Rows.{abstract_trade_row};
 ghost use Rattle.brk_tables_schema.specs.Statements.{ReadsDeskTables};
 
-use brk_money::{Fault, Id, Stamp};
+use brk_money::{CallFault, Id, Stamp, StoreFailed};
 use brk_ref::{Symbol, TradeRow};
 use brk_tables_schema::calls::select_rows;
 use brk_tables_schema::record::{decode_first_row, decode_rows};
@@ -25,11 +23,10 @@ pub fn twenty_trades_of_account<S: Alter>(
     account: Id,
     first: Stamp,
     last: Stamp,
-) -> Result<Vec<TradeRow>, Fault>
+) -> Result<Vec<TradeRow>, CallFault>
     ensures same_reference { tx.new.conn.ghost_name ≡ tx.old.conn.ghost_name }
     ensures step { ReadsDeskTables S.Store tx.old tx.new result (λ all t. map abstract_trade_row all.items
         ≡ take 20 (trade_rows_oldest_first (filter (λ r. (r.account == account) && row_stamp_is_between first last r) t.trades))) }
-    ensures fault { IfErr result IsCallFault }
 {
     let rows = select_rows(
         tx,
@@ -50,11 +47,10 @@ pub fn twenty_trades_of_symbol<S: Alter>(
     symbol: &Symbol,
     first: Stamp,
     last: Stamp,
-) -> Result<Vec<TradeRow>, Fault>
+) -> Result<Vec<TradeRow>, CallFault>
     ensures same_reference { tx.new.conn.ghost_name ≡ tx.old.conn.ghost_name }
     ensures step { ReadsDeskTables S.Store tx.old tx.new result (λ all t. map abstract_trade_row all.items
         ≡ take 20 (trade_rows_oldest_first (filter (λ r. bytes_eq r.symbol symbol.now && row_stamp_is_between first last r) t.trades))) }
-    ensures fault { IfErr result IsCallFault }
 {
     let rows = select_rows(
         tx,
@@ -77,11 +73,10 @@ pub fn first_trade_since<S: Alter>(
     tx: &mut Transaction<'_, S>,
     account: Id,
     first: Stamp,
-) -> Result<Option<TradeRow>, Fault>
+) -> Result<Option<TradeRow>, StoreFailed>
     ensures same_reference { tx.new.conn.ghost_name ≡ tx.old.conn.ghost_name }
     ensures step { ReadsDeskTables S.Store tx.old tx.new result (λ o t. option_to_list (option_map abstract_trade_row o)
         ≡ take 1 (trade_rows_oldest_first (filter (λ r. nat_le first r.stamp) (trade_rows_of_account t account)))) }
-    ensures fault { OnErr result (result ≡ Err Store) }
 {
     let rows = select_rows(
         tx,

@@ -2,12 +2,10 @@ ghost use Rattle.std.specs.Prelude.{◌≡◌, ◌⊎◌, IfErr, IfOk, OnOk, fal
 ghost use Rattle.sqlite.specs.Held.{state};
 ghost use Rattle.sqlite.specs.State.{HasCleanDisk, IsRolledBack, IsUnchanged, Survives};
 ghost use Rattle.sqlite.specs.Values.{bound};
-ghost use Rattle.brk_model.specs.Run.{IsCallFault};
 ghost use Rattle.brk_tables_views.specs.Walk.{IsWalkError, WalkEndsEarly, HasNoReturningClause, TakesAllRecords};
 
 use crate::visitor::Visitor;
-use brk_money::Fault;
-use brk_tables_schema::decode_error::DecodeError;
+use brk_money::CallFault;
 use brk_tables_schema::record::Record;
 use sqlite::{Alter, Connection, Row};
 use sqlite_value::value::ValueRef;
@@ -16,27 +14,21 @@ use sqlite_value::value::ValueRef;
 #[derive(Debug, Drop)]
 pub enum WalkError<E> {
     /// A fault: out of memory, an error of the database, or a malformed row.
-    Failed(Fault),
+    Failed(CallFault),
     /// The visitor's own error.
     Cause(E),
 }
 
-fn decode_record<R: Record>(row: &Row) -> Result<R, Fault>
+fn decode_record<R: Record>(row: &Row) -> Result<R, CallFault>
     ensures value { IfOk result (λ r. R.cells r ≡ row.now) }
-    ensures fault { IfErr result IsCallFault }
 {
-    match R::from_row(row) {
-        Ok(record) => Ok(record),
-        Err(DecodeError::Form) => Err(Fault::Store),
-        Err(DecodeError::Memory) => Err(Fault::Memory),
-    }
+    Ok(R::from_row(row)?)
 }
 
 /// Passes the records in the rows of the query `sql` to the visitor, in the order of the query's
-/// result, until all are passed or an error occurs. Fails with `Failed` and the fault `Memory` or
-/// `Store`, or with `Cause` and the visitor's error.
+/// result, until all are passed or an error occurs.
 ///
-/// The fault is `Store` also if no end of the result is found after 2^64 - 1 rows. The clauses on
+/// Fails with `Store` also if no end of the result is found after 2^64 - 1 rows. The clauses on
 /// the visitor's records hold under the disk assumption (every read so far returned what was
 /// written).
 pub fn walk_query_rows<S: Alter, R: Record, E, V: Visitor<R, E>>(
@@ -56,8 +48,7 @@ pub fn walk_query_rows<S: Alter, R: Record, E, V: Visitor<R, E>>(
     // fault it took a prefix of the records, possibly none.
     ensures early { HasCleanDisk (state S.Store conn.new)
         → IfErr result (WalkEndsEarly R.cells V.takes V.stops sql.now (bound params.now) (state S.Store conn.old) visitor.old visitor.new) }
-    // The error is `Memory` or `Store`, or that of the visitor, whether or not the disk assumption
-    // holds.
+    // An error of the visitor is one at which it stopped, whether or not the disk assumption holds.
     ensures fault { IfErr result (IsWalkError V.stops visitor.new) }
     ensures unchanged_if_ok { HasCleanDisk (state S.Store conn.new) → OnOk result (IsUnchanged (state S.Store conn.old) (state S.Store conn.new)) }
     ensures changes_at_most_by_rollback { HasCleanDisk (state S.Store conn.new)
@@ -67,13 +58,13 @@ pub fn walk_query_rows<S: Alter, R: Record, E, V: Visitor<R, E>>(
 {
     let mut rows = match conn.query(sql, params) {
         Ok(rows) => rows,
-        Err(_) => return Err(WalkError::Failed(Fault::Store)),
+        Err(_) => return Err(WalkError::Failed(CallFault::Store)),
     };
     'rows: for _ in 0..u64::MAX {
         let row = match rows.next() {
             Ok(Some(row)) => row,
             Ok(None) => return Ok(()),
-            Err(_) => return Err(WalkError::Failed(Fault::Store)),
+            Err(_) => return Err(WalkError::Failed(CallFault::Store)),
         };
         let item = match decode_record::<R>(row) {
             Ok(item) => item,
@@ -84,5 +75,5 @@ pub fn walk_query_rows<S: Alter, R: Record, E, V: Visitor<R, E>>(
             Err(cause) => return Err(WalkError::Cause(cause)),
         }
     }
-    Err(WalkError::Failed(Fault::Store))
+    Err(WalkError::Failed(CallFault::Store))
 }

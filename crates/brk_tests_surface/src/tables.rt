@@ -8,7 +8,7 @@ use std::alloc::Global;
 use std::test::Fail;
 
 fn create_tables<S: Alter>(tx: &mut Transaction<'_, S>) -> Result<(), Fault> {
-    create_desk_tables(tx)
+    Ok(create_desk_tables(tx)?)
 }
 
 fn write_broker_and_stamp<S: Alter>(

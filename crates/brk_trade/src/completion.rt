@@ -1,7 +1,6 @@
 //! The row changes that complete a trade. A function that fails may have appended a part of them.
 
-ghost use Rattle.std.specs.Prelude.{◌≡◌, ◌++◌, flat_map, option_map, option_to_list, string_bytes, IfOk, OnOk, OnErr, Err};
-ghost use Rattle.brk_money.specs.declared.fault.Fault.TheVariants.{Memory};
+ghost use Rattle.std.specs.Prelude.{◌≡◌, ◌++◌, flat_map, option_map, option_to_list, string_bytes, IfOk, OnOk};
 ghost use Rattle.brk_trade.specs.Outcomes.{quantity_in_summary};
 ghost use Rattle.brk_trade.specs.Results as spec;
 ghost use Rattle.brk_trade.specs.Results.{AreResultChanges};
@@ -10,7 +9,7 @@ ghost use Rattle.brk_ref.specs.Rows.{abstract_cash_row};
 use crate::outcome::ResultFigures;
 use crate::result_found::ResultPlanFacts;
 use brk_lots::{ClosedLots, Lot, Touch};
-use brk_money::{Fault, Id, Price, Qty, Status};
+use brk_money::{Id, Price, Qty, Status};
 use brk_ref::{
     CashRow, CashType, HistoryRow, HoldingRow, LotChange, Name, SettlementRow, SummaryRow, TradeRow,
 };
@@ -23,9 +22,8 @@ fn append_trade(
     price: Price,
     completed: &Completed,
     changes: &mut Vec<Change>,
-) -> Result<(), Fault>
+) -> Result<(), AllocError>
     ensures changes { OnOk result (changes.new.items ≡ changes.old.items ++ spec.row_changes_of_completed_trade trade price completed.now) }
-    ensures fault { OnErr result (result ≡ Err Memory) }
 {
     changes.push(Change::CompleteTrade {
         trade,
@@ -66,18 +64,16 @@ fn history_change(trade: Id, touch: &Touch) -> Change
     })
 }
 
-fn append_touch(trade: Id, touch: &Touch, changes: &mut Vec<Change>) -> Result<(), Fault>
+fn append_touch(trade: Id, touch: &Touch, changes: &mut Vec<Change>) -> Result<(), AllocError>
     ensures changes { OnOk result (changes.new.items ≡ changes.old.items ++ spec.row_changes_of_touched_lot trade touch.now) }
-    ensures fault { OnErr result (result ≡ Err Memory) }
 {
     changes.push(holding_change(touch))?;
     changes.push(history_change(trade, touch))?;
     Ok(())
 }
 
-fn append_touches(trade: Id, touched: &[Touch], changes: &mut Vec<Change>) -> Result<(), Fault>
+fn append_touches(trade: Id, touched: &[Touch], changes: &mut Vec<Change>) -> Result<(), AllocError>
     ensures changes { OnOk result (changes.new.items ≡ changes.old.items ++ flat_map (spec.row_changes_of_touched_lot trade) touched.now) }
-    ensures fault { OnErr result (result ≡ Err Memory) }
 {
     for touch in touched {
         append_touch(trade, touch, changes)?;
@@ -89,9 +85,8 @@ fn append_opened(
     trade: &TradeRow,
     opened: Option<Lot>,
     changes: &mut Vec<Change>,
-) -> Result<(), Fault>
+) -> Result<(), AllocError>
     ensures changes { OnOk result (changes.new.items ≡ changes.old.items ++ flat_map (spec.row_changes_of_opened_lot trade.now) (option_to_list opened)) }
-    ensures fault { OnErr result (result ≡ Err Memory) }
 {
     let Some(lot) = opened else {
         return Ok(());
@@ -113,9 +108,8 @@ fn append_opened(
     Ok(())
 }
 
-fn summary_change(found: &ResultPlanFacts, outcome: &ResultFigures) -> Result<Change, Fault>
+fn summary_change(found: &ResultPlanFacts, outcome: &ResultFigures) -> Result<Change, AllocError>
     ensures change { IfOk result (λ change. change ≡ spec.row_change_of_summary (quantity_in_summary found.now) found.now.trade outcome.now.summary) }
-    ensures fault { OnErr result (result ≡ Err Memory) }
 {
     let account = found.trade.account;
     let symbol = found.trade.symbol.clone()?;
@@ -172,9 +166,8 @@ fn append_sums(
     found: &ResultPlanFacts,
     outcome: &ResultFigures,
     changes: &mut Vec<Change>,
-) -> Result<(), Fault>
-    ensures changes { OnOk result (changes.new.items ≡ changes.old.items ++ spec.summary_broker_settlement_changes found.now outcome.now) }
-    ensures fault { OnErr result (result ≡ Err Memory) }
+) -> Result<(), AllocError>
+    ensures { OnOk result (changes.new.items ≡ changes.old.items ++ spec.summary_broker_settlement_changes found.now outcome.now) }
 {
     let summary = summary_change(found, outcome)?;
     changes.push(summary)?;
@@ -225,10 +218,9 @@ fn append_cash(
     completed: &Completed,
     cash: Option<CashRow>,
     changes: &mut Vec<Change>,
-) -> Result<(), Fault>
+) -> Result<(), AllocError>
     ensures changes { OnOk result (changes.new.items
         ≡ changes.old.items ++ flat_map (spec.row_changes_of_cash_row account completed.now.balance) (option_to_list cash)) }
-    ensures fault { OnErr result (result ≡ Err Memory) }
 {
     let Some(row) = cash else {
         return Ok(());
@@ -248,9 +240,8 @@ fn row_changes(
     closed: &ClosedLots,
     outcome: &ResultFigures,
     cash: Option<CashRow>,
-) -> Result<Vec<Change>, Fault>
+) -> Result<Vec<Change>, AllocError>
     ensures changes { IfOk result (λ changes. changes.items ≡ spec.row_changes_of_result found.now price closed.now outcome.now cash) }
-    ensures fault { OnErr result (result ≡ Err Memory) }
 {
     let trade = &found.trade;
     let completed = &outcome.completed;
@@ -270,9 +261,8 @@ pub(crate) fn result_changes(
     price: Price,
     closed: &ClosedLots,
     outcome: &ResultFigures,
-) -> Result<Vec<Change>, Fault>
+) -> Result<Vec<Change>, AllocError>
     ensures changes { IfOk result (λ changes. AreResultChanges found.now price closed.now outcome.now changes.items) }
-    ensures fault { OnErr result (result ≡ Err Memory) }
 {
     let cash = result_cash_row(alloc, found, &outcome.completed)?;
     let changes = row_changes(alloc, found, price, closed, outcome, cash)?;

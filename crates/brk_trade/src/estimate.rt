@@ -7,7 +7,7 @@ ghost use Rattle.brk_lots.specs.declared.lot.Lot.{Lot};
 ghost use Rattle.brk_lots.specs.Lots.{shares_of_lots};
 ghost use Rattle.brk_lots.specs.Against.{is_trade_closing_lots};
 ghost use Rattle.brk_lots.specs.Books.{lot_quantity_sum};
-ghost use Rattle.brk_lots.specs.Sources.{YieldsPosition, AreLotsOfFaithfulSource};
+ghost use Rattle.brk_lots.specs.Sources.{YieldsPosition, AreLotsOfFaithfulSource, RequestsLots};
 ghost use Rattle.brk_lots.specs.Values.{closing_values_of_deal};
 ghost use Rattle.brk_trade.specs.Estimates.{AreOrderTermsInBase, OrderReadsAtMostOneLotMore, commission_from_terms, deal_from_terms, tax_on_gain_at_status};
 ghost use Rattle.brk_trade_plans.specs.Replies.{estimate_from_model};
@@ -59,8 +59,7 @@ pub fn tax_on_realised_gain(values: Values, status: TaxStatus, rates: TaxRate) -
 }
 
 fn closing_values<L: LotSource>(source: &mut L, terms: &Terms) -> Result<Values, Fault>
-    // The source is in a state to which its calls can lead.
-    ensures leads { L.leads source.old source.new }
+    ensures source { RequestsLots L.leads L.reads_faithfully L.remaining L.asked L.faulted L.fails (λ _. ⊥) terms.now.qty source.old source.new result }
 
     // At `Ok` the values of exactly the shares that the order would close.
     ensures values { IfOk result (λ values. (ls : List Lot) (trade stamp : ℕ) (lifo : Bool) →
@@ -71,14 +70,6 @@ fn closing_values<L: LotSource>(source: &mut L, terms: &Terms) -> Result<Values,
     ensures asked { OrderReadsAtMostOneLotMore terms.now
         (AreLotsOfFaithfulSource (L.reads_faithfully source.new) (L.remaining source.old)) (L.asked source.old) (L.asked source.new) }
     ensures reads_no_lot { is_trade_closing_lots terms.now.side terms.now.held ≡ false → source.new ≡ source.old }
-
-    // At `Ok` the source counted no fault; a fault is one with which a call of the source failed.
-    ensures faulted { IfOk result (λ values. L.faulted source.new ≡ L.faulted source.old) }
-    ensures fault { IfErr result (λ fault. (before : L) × L.fails before fault source.new) }
-
-    // The lots that remain in the source, also if the call fails.
-    ensures rest { (ls : List Lot) → AreLotsOfFaithfulSource (L.reads_faithfully source.new) (L.remaining source.old) ls
-        → (n : ℕ) × L.remaining source.new (drop n ls) }
 {
     if is_trade_closing_lots(terms.side, terms.held) {
         estimate_values(source, terms.side, terms.qty, terms.price)

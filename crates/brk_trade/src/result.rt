@@ -2,7 +2,7 @@ ghost use Rattle.std.specs.Prelude.{◌≡◌, ◌⊎◌, ◌+◌, ◌*◌, ◌�
 ghost use Rattle.brk_lots.specs.declared.lot.Lot.{Lot};
 ghost use Rattle.brk_lots.specs.Closing.{IsEffectOfDealOnLots};
 ghost use Rattle.brk_lots.specs.Lots.{shares_of_lots};
-ghost use Rattle.brk_lots.specs.Sources.{AreLotsOfFaithfulSource};
+ghost use Rattle.brk_lots.specs.Sources.{AreLotsOfFaithfulSource, RequestsLots};
 ghost use Rattle.brk_model.specs.Limits.{greatest_price};
 ghost use Rattle.brk_model.specs.Shares.{touches_of_existing_lots};
 ghost use Rattle.brk_money.specs.Moments as moments;
@@ -26,8 +26,7 @@ fn effect_of_trade_on_lots<L: LotSource>(
     price: Price,
     stamp: Stamp,
 ) -> Result<ClosedLots, Fault>
-    // The source is in a state to which its calls can lead.
-    ensures leads { L.leads source.old source.new }
+    ensures source { RequestsLots L.leads L.reads_faithfully L.remaining L.asked L.faulted L.fails (λ fault. fault ≡ Fault.Memory) found.now.trade.qty source.old source.new result }
 
     // At `Ok` the effect of the trade on the lots, and the limit of the sell value.
     ensures closed { IfOk result (λ closed. (ls : List Lot)
@@ -39,14 +38,6 @@ fn effect_of_trade_on_lots<L: LotSource>(
     ensures asked { (ls : List Lot) → AreLotsBeforeTrade (AreLotsOfFaithfulSource (L.reads_faithfully source.new) (L.remaining source.old)) found.now ls →
         L.asked source.new ≤ L.asked source.old + length (touches_of_existing_lots (deal_of_trade_row found.now.trade price stamp) (shares_of_lots ls)) + 1 }
     ensures reads_no_lot { ClosesNoHeldShares found.now → source.new ≡ source.old }
-
-    // At `Ok` the source counted no fault; a fault is `Memory` or that of a call of the source.
-    ensures faulted { IfOk result (λ closed. L.faulted source.new ≡ L.faulted source.old) }
-    ensures fault { IfErr result (λ fault. (fault ≡ Fault.Memory) ⊎ ((before : L) × L.fails before fault source.new)) }
-
-    // The lots that remain in the source, also if the call fails.
-    ensures rest { (ls : List Lot) → AreLotsOfFaithfulSource (L.reads_faithfully source.new) (L.remaining source.old) ls
-        → (n : ℕ) × L.remaining source.new (drop n ls) }
 {
     let trade = &found.trade;
     let side = trade.kind.side();

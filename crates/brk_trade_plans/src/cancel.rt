@@ -7,9 +7,9 @@ ghost use Rattle.brk_trade_plans.specs.Reference.{later_stamp_check};
 use crate::plan::Plan;
 use crate::reply::Reply;
 use crate::waiting::append_pending_changes;
-use brk_money::{Fault, Id, Planned, Refusal, Stamp, Status, stamp_after};
+use brk_money::{Id, Planned, Refusal, Stamp, Status, stamp_after};
 use brk_trade_rows::Change;
-use std::alloc::Global;
+use std::alloc::{AllocError, Global};
 
 fn refusal_of_cancel(found: Option<Status>) -> Option<Refusal>
     ensures { result ≡ first_refusal (cancel_checks found) }
@@ -21,9 +21,8 @@ fn refusal_of_cancel(found: Option<Status>) -> Option<Refusal>
     }
 }
 
-fn cancel_changes(alloc: Global, trade: Id, stamp: Stamp) -> Result<Vec<Change>, Fault>
+fn cancel_changes(alloc: Global, trade: Id, stamp: Stamp) -> Result<Vec<Change>, AllocError>
     ensures changes { IfOk result (λ changes. changes.items ≡ row_changes_of_cancel trade stamp) }
-    ensures fault { OnErr result (result ≡ Err Memory) }
 {
     let mut changes = Vec::new(alloc);
     append_pending_changes(trade, Status::Canceled, stamp, &mut changes)?;

@@ -17,11 +17,11 @@ use crate::plan::Plan;
 use crate::quote::Quote;
 use crate::reply::Reply;
 use crate::waiting::append_pending_changes;
-use brk_money::{Fault, Id, Limit, Planned, Price, Refusal, Stamp, Status, TradeType, stamp_after};
+use brk_money::{Id, Limit, Planned, Price, Refusal, Stamp, Status, TradeType, stamp_after};
 use brk_ref::{LastTrade, RequestRow, Symbol, Volume};
 use brk_ref_orders::{Feed, Tick};
 use brk_trade_rows::Change;
-use std::alloc::Global;
+use std::alloc::{AllocError, Global};
 
 /// Returns true if the market price `price` triggers a pending trade (Market-Feed): a stop loss or
 /// a limit buy at its bid or below, a limit sell at its bid or above, a market type never.
@@ -76,9 +76,8 @@ fn last_after_tick(stamp: Stamp, tick: &Tick, last: LastTrade) -> Result<LastTra
     })
 }
 
-fn last_trade_change(last: &LastTrade) -> Result<Change, Fault>
+fn last_trade_change(last: &LastTrade) -> Result<Change, AllocError>
     ensures change { IfOk result (λ change. change ≡ SetLastTrade last.now) }
-    ensures fault { OnErr result (result ≡ Err Memory) }
 {
     Ok(Change::SetLastTrade(LastTrade {
         symbol: last.symbol.clone()?,
@@ -94,10 +93,9 @@ fn submit_triggered(
     requests: &[RequestRow],
     changes: &mut Vec<Change>,
     ids: &mut Vec<Id>,
-) -> Result<(), Fault>
+) -> Result<(), AllocError>
     ensures changes { OnOk result (changes.new.items ≡ changes.old.items ++ row_changes_of_submissions stamp (trades_triggered_at_price price requests.now)) }
     ensures ids { OnOk result (ids.new.items ≡ ids.old.items ++ trades_triggered_at_price price requests.now) }
-    ensures fault { OnErr result (result ≡ Err Memory) }
 {
     for request in requests {
         if is_triggered_at_price(request.kind, request.bid, price) {
@@ -112,9 +110,8 @@ fn still_pending(
     alloc: Global,
     price: Price,
     requests: Vec<RequestRow>,
-) -> Result<Vec<RequestRow>, Fault>
+) -> Result<Vec<RequestRow>, AllocError>
     ensures waiting { IfOk result (λ waiting. waiting.items ≡ requests_not_triggered_at_price price requests.items) }
-    ensures fault { OnErr result (result ≡ Err Memory) }
 {
     let mut waiting = Vec::new(alloc);
     for request in requests {
@@ -133,7 +130,7 @@ fn apply_to_quote(
     quote: Quote,
     changes: &mut Vec<Change>,
     ids: &mut Vec<Id>,
-) -> Planned<Quote>
+) -> Planned<Quote, AllocError>
     // If the tick is not refused: the quote after it, and what is appended to `changes` and `ids`.
     ensures quote { IfOk result (λ taken. IfOk taken (λ after. state_of_quote after ∷ [] ≡ states_after_tick stamp (state_of_quote quote ∷ []) tick.now)) }
     ensures changes { IfOk result (λ taken. IfOk taken (λ _. changes.new.items
@@ -144,8 +141,6 @@ fn apply_to_quote(
     ensures within { IfOk result (λ taken. IfOk taken (λ after. has_volume_above_limit (state_of_quote after) ≡ false)) }
     ensures refusal { IfOk result (λ taken. IfErr taken (λ refusal. (refusal ≡ Range limit.Volume)
         × (list_any has_volume_above_limit (states_after_tick stamp (state_of_quote quote ∷ []) tick.now) ≡ true))) }
-
-    ensures fault { OnErr result (result ≡ Err Memory) }
 {
     if !quotes_symbol(&quote, &tick.symbol) {
         return Ok(Ok(quote));
@@ -168,7 +163,7 @@ fn apply_to_quotes(
     quotes: Vec<Quote>,
     changes: &mut Vec<Change>,
     ids: &mut Vec<Id>,
-) -> Planned<Vec<Quote>>
+) -> Planned<Vec<Quote>, AllocError>
     // If the tick is not refused: the quotes after it, and what is appended to `changes` and `ids`.
     ensures quotes { IfOk result (λ taken. IfOk taken (λ after. states_of_quotes after.items
         ≡ states_after_tick stamp (states_of_quotes quotes.items) tick.now)) }
@@ -180,8 +175,6 @@ fn apply_to_quotes(
     ensures within { IfOk result (λ taken. IfOk taken (λ after. list_any has_volume_above_limit (states_of_quotes after.items) ≡ false)) }
     ensures refusal { IfOk result (λ taken. IfErr taken (λ refusal. (refusal ≡ Range limit.Volume)
         × (list_any has_volume_above_limit (states_after_tick stamp (states_of_quotes quotes.items) tick.now) ≡ true))) }
-
-    ensures fault { OnErr result (result ≡ Err Memory) }
 {
     let mut after = Vec::new(alloc);
     for quote in quotes {
@@ -210,7 +203,7 @@ fn apply_ticks(
     quotes: Vec<Quote>,
     changes: &mut Vec<Change>,
     ids: &mut Vec<Id>,
-) -> Planned<()>
+) -> Planned<(), AllocError>
     // If the ticks are not refused: what is appended to `changes` and `ids`.
     ensures changes { IfOk result (λ taken. OnOk taken (changes.new.items
         ≡ changes.old.items ++ row_changes_of_ticks stamp ticks.now (states_of_quotes quotes.items))) }
@@ -222,8 +215,6 @@ fn apply_ticks(
         ≡ false)) }
     ensures refusal { IfOk result (λ taken. IfErr taken (λ refusal. (refusal ≡ Range limit.Volume)
         × (list_any has_volume_above_limit (states_after_ticks stamp ticks.now (states_of_quotes quotes.items)) ≡ true))) }
-
-    ensures fault { OnErr result (result ≡ Err Memory) }
 {
     prove_volumes(&quotes);
     let mut current = quotes;

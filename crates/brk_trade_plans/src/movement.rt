@@ -9,7 +9,7 @@ ghost use Rattle.brk_trade_plans.specs.Reference.{later_stamp_check};
 
 use crate::plan::Plan;
 use crate::reply::Reply;
-use brk_money::{Cents, Fault, Id, Limit, MoveId, Planned, Refusal, Stamp, stamp_after};
+use brk_money::{Cents, Id, Limit, MoveId, Planned, Refusal, Stamp, stamp_after};
 use brk_ref::CashRow;
 use brk_ref_orders::{Direction, Movement};
 use brk_trade_rows::Change;
@@ -98,9 +98,8 @@ fn move_changes(
     row: CashRow,
     balance: Cents,
     stamp: Stamp,
-) -> Result<Vec<Change>, Fault>
+) -> Result<Vec<Change>, AllocError>
     ensures changes { IfOk result (λ changes. changes.items ≡ spec.row_changes_of_movement account row balance stamp) }
-    ensures fault { OnErr result (result ≡ Err Memory) }
 {
     let mut changes = Vec::new(alloc);
     changes.push(Change::AddMove(row))?;
@@ -115,9 +114,8 @@ fn movement_plan(
     number: MoveId,
     balance: Cents,
     stamp: Stamp,
-) -> Result<Plan, Fault>
+) -> Result<Plan, AllocError>
     ensures moved { IfOk result (λ plan. AppliesMovement movement.now number balance stamp plan) }
-    ensures fault { OnErr result (result ≡ Err Memory) }
 {
     let row = moved_cash_row(alloc, movement, number, stamp)?;
     let changes = move_changes(alloc, movement.account, row, balance, stamp)?;

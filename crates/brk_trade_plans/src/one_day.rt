@@ -6,13 +6,12 @@ ghost use Rattle.brk_trade_plans.specs.OneDay.{IsOneDaySettlementPlan, one_day_s
 
 use crate::plan::Plan;
 use crate::reply::Reply;
-use brk_money::{Day, Fault, Planned, Refusal, Stamp, day_of, stamp_after};
+use brk_money::{Day, Planned, Refusal, Stamp, day_of, stamp_after};
 use brk_trade_rows::Change;
-use std::alloc::Global;
+use std::alloc::{AllocError, Global};
 
-fn one_day_changes(alloc: Global, day: Day, stamp: Stamp) -> Result<Vec<Change>, Fault>
+fn one_day_changes(alloc: Global, day: Day, stamp: Stamp) -> Result<Vec<Change>, AllocError>
     ensures changes { IfOk result (λ changes. changes.items ≡ change.SetOneDaySettlementStart day ∷ change.SetLastStamp stamp ∷ []) }
-    ensures fault { OnErr result (result ≡ Err Memory) }
 {
     let mut changes = Vec::new(alloc);
     changes.push(Change::SetOneDaySettlementStart(day))?;

@@ -1,10 +1,9 @@
-ghost use Rattle.std.specs.Prelude.{◌≡◌, ◌++◌, IfOk, OnErr, Err};
+ghost use Rattle.std.specs.Prelude.{◌≡◌, ◌++◌, IfOk};
 ghost use Rattle.std.specs.List.Sorted.{IsNonDecreasingBy, IsPermutation};
-ghost use Rattle.brk_money.specs.declared.fault.Fault.TheVariants.{Memory};
 ghost use Rattle.brk_ref.specs.declared.request_row.RequestRow as request;
 
-use brk_money::Fault;
 use brk_ref::{LastTrade, RequestRow};
+use std::alloc::AllocError;
 
 /// The last trade of one security on the market, and its pending requests, sorted by trade,
 /// ascending.
@@ -20,11 +19,10 @@ pub fn create_quote(
     stop_losses: Vec<RequestRow>,
     limit_sells: Vec<RequestRow>,
     limit_buys: Vec<RequestRow>,
-) -> Result<Quote, Fault>
+) -> Result<Quote, AllocError>
     ensures last { IfOk result (λ quote. quote.last ≡ last) }
     ensures requests { IfOk result (λ quote. IsPermutation ((stop_losses.items ++ limit_sells.items) ++ limit_buys.items) quote.requests.items) }
     ensures order { IfOk result (λ quote. IsNonDecreasingBy (λ (r : request.RequestRow). r.trade) quote.requests.items) }
-    ensures fault { OnErr result (result ≡ Err Memory) }
 {
     let mut requests = stop_losses;
     let mut sells = limit_sells;

@@ -10,7 +10,7 @@ ghost use Rattle.brk_trade_plans.specs.Reference.{reference_checks};
 
 use crate::plan::Plan;
 use crate::reply::Reply;
-use brk_money::{Fault, Limit, Planned, Refusal, Stamp, TaxRate, stamp_after};
+use brk_money::{Limit, Planned, Refusal, Stamp, TaxRate, stamp_after};
 use brk_ref::{
     Account, Band, Broker, Charge, Customer, CustomerTax, LastTrade, Listing, Permission, Tax,
     Volume,
@@ -179,9 +179,12 @@ fn first_last_trade(listing: &Listing, stamp: Stamp) -> Result<LastTrade, AllocE
     })
 }
 
-fn record_changes(alloc: Global, reference: &Reference, stamp: Stamp) -> Result<Vec<Change>, Fault>
+fn record_changes(
+    alloc: Global,
+    reference: &Reference,
+    stamp: Stamp,
+) -> Result<Vec<Change>, AllocError>
     ensures changes { IfOk result (λ changes. changes.items ≡ row_changes_adding_record stamp reference.now ++ change.SetLastStamp stamp ∷ []) }
-    ensures fault { OnErr result (result ≡ Err Memory) }
 {
     let mut changes = Vec::new(alloc);
     changes.push(record_change(reference)?)?;

@@ -1,4 +1,4 @@
-ghost use Rattle.std.specs.Prelude.{◌≡◌, ◌∷◌, ◌++◌, [], IfOk, OnErr, OnOk, Err, MatchResult, MatchOption, Some, map};
+ghost use Rattle.std.specs.Prelude.{◌≡◌, ◌∷◌, ◌++◌, [], IfOk, OnErr, Err, MatchResult, MatchOption, Some, map};
 ghost use Rattle.brk_model.specs.Tests.{first_refusal};
 ghost use Rattle.brk_money.specs.declared.fault.Fault.TheVariants.{Memory};
 ghost use Rattle.brk_trade_rows.specs.Changes.{tables_after_change};
@@ -11,11 +11,11 @@ use crate::corrected::{CashText, SettlementText, TextUpdate};
 use crate::plan::Plan;
 use crate::reply::Reply;
 use crate::wording::{toggle_executor, toggle_text, toggle_type};
-use brk_money::{Fault, Planned, Refusal, Stamp, stamp_after};
+use brk_money::{Planned, Refusal, Stamp, stamp_after};
 use brk_ref::{Name, TradeRow};
 use brk_ref_orders::Update;
 use brk_trade_rows::Change;
-use std::alloc::Global;
+use std::alloc::{AllocError, Global};
 
 fn target_refusal(update: &Update) -> Refusal
     ensures { result ≡ spec.missing_target_refusal update.now }
@@ -27,9 +27,8 @@ fn target_refusal(update: &Update) -> Refusal
     }
 }
 
-fn executor_change(alloc: Global, trade: &TradeRow) -> Result<Change, Fault>
+fn executor_change(alloc: Global, trade: &TradeRow) -> Result<Change, AllocError>
     ensures change { IfOk result (λ change. tables_after_change change ≡ tables_with_updated_executor_name trade.now) }
-    ensures fault { OnErr result (result ≡ Err Memory) }
 {
     let executor = toggle_executor(alloc, trade.executor.as_str())?;
     Ok(Change::SetExecutor {
@@ -47,9 +46,8 @@ fn cash_type_change(settled: &SettlementText) -> Change
     }
 }
 
-fn cash_name_change(alloc: Global, security: &Name, paid: &CashText) -> Result<Change, Fault>
+fn cash_name_change(alloc: Global, security: &Name, paid: &CashText) -> Result<Change, AllocError>
     ensures change { IfOk result (λ change. tables_after_change change ≡ tables_with_toggled_cash_text security.now paid.now) }
-    ensures fault { OnErr result (result ≡ Err Memory) }
 {
     let name = toggle_text(alloc, paid, security)?;
     Ok(Change::SetCashName {
@@ -58,9 +56,8 @@ fn cash_name_change(alloc: Global, security: &Name, paid: &CashText) -> Result<C
     })
 }
 
-fn executor_changes(alloc: Global, trades: &[TradeRow]) -> Result<Vec<Change>, Fault>
+fn executor_changes(alloc: Global, trades: &[TradeRow]) -> Result<Vec<Change>, AllocError>
     ensures changes { IfOk result (λ changes. map tables_after_change changes.items ≡ map tables_with_updated_executor_name trades.now) }
-    ensures fault { OnErr result (result ≡ Err Memory) }
 {
     let mut changes = Vec::new(alloc);
     for trade in trades {
@@ -69,9 +66,8 @@ fn executor_changes(alloc: Global, trades: &[TradeRow]) -> Result<Vec<Change>, F
     Ok(changes)
 }
 
-fn cash_type_changes(alloc: Global, settled: &[SettlementText]) -> Result<Vec<Change>, Fault>
+fn cash_type_changes(alloc: Global, settled: &[SettlementText]) -> Result<Vec<Change>, AllocError>
     ensures changes { IfOk result (λ changes. map tables_after_change changes.items ≡ map tables_with_toggled_cash_type settled.now) }
-    ensures fault { OnErr result (result ≡ Err Memory) }
 {
     let mut changes = Vec::new(alloc);
     for one in settled {
@@ -84,9 +80,8 @@ fn cash_name_changes(
     alloc: Global,
     security: &Name,
     paid: &[CashText],
-) -> Result<Vec<Change>, Fault>
+) -> Result<Vec<Change>, AllocError>
     ensures changes { IfOk result (λ changes. map tables_after_change changes.items ≡ map (tables_with_toggled_cash_text security.now) paid.now) }
-    ensures fault { OnErr result (result ≡ Err Memory) }
 {
     let mut changes = Vec::new(alloc);
     for one in paid {
@@ -95,9 +90,8 @@ fn cash_name_changes(
     Ok(changes)
 }
 
-fn update_changes(alloc: Global, found: &TextUpdate) -> Result<Vec<Change>, Fault>
+fn update_changes(alloc: Global, found: &TextUpdate) -> Result<Vec<Change>, AllocError>
     ensures changes { IfOk result (λ changes. map tables_after_change changes.items ≡ table_updates_of_text_update found.now) }
-    ensures fault { OnErr result (result ≡ Err Memory) }
 {
     match found {
         TextUpdate::Executors(trades) => executor_changes(alloc, trades),

@@ -1,10 +1,10 @@
-ghost use Rattle.std.specs.Prelude.{◌≡◌, ◌++◌, OnOk, OnErr, Err};
-ghost use Rattle.brk_money.specs.declared.fault.Fault.TheVariants.{Memory};
+ghost use Rattle.std.specs.Prelude.{◌≡◌, ◌++◌, OnOk};
 ghost use Rattle.brk_trade_plans.specs.Waiting.{row_changes_of_status_after_pending};
 
-use brk_money::{Fault, Id, Stamp, Status};
+use brk_money::{Id, Stamp, Status};
 use brk_ref::HistoryRow;
 use brk_trade_rows::Change;
+use std::alloc::AllocError;
 
 // Sets the status and the stamp, adds a history row and deletes the trade's request.
 pub(crate) fn append_pending_changes(
@@ -12,9 +12,8 @@ pub(crate) fn append_pending_changes(
     status: Status,
     stamp: Stamp,
     changes: &mut Vec<Change>,
-) -> Result<(), Fault>
+) -> Result<(), AllocError>
     ensures changes { OnOk result (changes.new.items ≡ changes.old.items ++ row_changes_of_status_after_pending trade status stamp) }
-    ensures fault { OnErr result (result ≡ Err Memory) }
 {
     let row = HistoryRow {
         trade,

@@ -61,10 +61,7 @@ pub(crate) fn push_stamp(
 pub(crate) fn push_day(alloc: Global, texts: &mut Vec<String>, day: Day) -> Result<(), AllocError>
     ensures { OnOk result (texts_of_record texts.new ≡ texts_of_record texts.old ++ spelling.day_text day ∷ []) }
 {
-    let Ok(text) = day_text(alloc, day) else {
-        return Err(AllocError);
-    };
-    texts.push(text)?;
+    texts.push(day_text(alloc, day)?)?;
     Ok(())
 }
 

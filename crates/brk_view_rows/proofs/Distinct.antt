@@ -7,7 +7,17 @@ use Rattle.brk_money.specs.declared.refusal.Refusal.TheVariants.{BadText}
 use Rattle.brk_model.specs.Forms.{ReadResult, ◌⊛◌, read_each_text, read_name}
 use Rattle.brk_model.specs.Lists.{distinct_texts}
 use Rattle.brk_ref.proofs.Applied.{text_left, text_right}
-use Rattle.brk_view_rows.specs.BrokerNames.{distinct_parsed_names, contains_name, names_then_new_names, distinct_new_names, names_with_new_name}
+use Rattle.brk_view_rows.specs.BrokerNames.{distinct_parsed_names, contains_name, names_with_new_name}
+
+-- The names of `more` that are not in `names`, in order, each only where it first occurs in `more`.
+abbrev pub distinct_new_names : List Text → List Text → List Text
+distinct_new_names names more = filter (λ name. not (contains_name names name)) (distinct_texts more)
+
+-- The list `names` followed by the parsed names that are not in it, in order, each only where it
+-- first occurs; the refusal of parsing if there is one.
+abbrev pub names_then_new_names : List Text → ReadResult (List Text) → ReadResult (List Text)
+names_then_new_names names (Ok more) = Ok (names ++ distinct_new_names names more)
+names_then_new_names names (Err refusal) = Err refusal
 
 -- ---- names left out twice
 

@@ -1,5 +1,5 @@
 -- Names that are parsed from fields, without repetitions.
-use Rattle.std.specs.Prelude.{Bool, not, if◌then◌else◌, List, [], ◌∷◌, ◌++◌, filter, Ok, Err, bytes_eq}
+use Rattle.std.specs.Prelude.{Bool, if◌then◌else◌, List, [], ◌∷◌, ◌++◌, Ok, Err, bytes_eq}
 use Rattle.std.specs.Global.{Vec}
 use Rattle.std.specs.List.{list_any}
 use Rattle.brk_money.specs.Spelling.{Text}
@@ -13,16 +13,6 @@ contains_name names name = list_any (bytes_eq name) names
 -- The list `names`, with `name` added at its end if no element of `names` equals it.
 abbrev pub names_with_new_name : List Text → Text → List Text
 names_with_new_name names name = if contains_name names name then names else names ++ name ∷ []
-
--- The names of `more` that are not in `names`, in order, each only where it first occurs in `more`.
-abbrev pub distinct_new_names : List Text → List Text → List Text
-distinct_new_names names more = filter (λ name. not (contains_name names name)) (distinct_texts more)
-
--- The list `names` followed by the parsed names that are not in it, in order, each only where it
--- first occurs; the refusal of parsing if there is one.
-abbrev pub names_then_new_names : List Text → ReadResult (List Text) → ReadResult (List Text)
-names_then_new_names names (Ok more) = Ok (names ++ distinct_new_names names more)
-names_then_new_names names (Err refusal) = Err refusal
 
 -- The parsed names, in order, each only where it first occurs; the refusal of parsing if there is
 -- one.

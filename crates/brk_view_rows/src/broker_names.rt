@@ -1,14 +1,13 @@
-ghost use Rattle.std.specs.Prelude.{◌≡◌, ℕ, List, IfOk, OnOk, OnErr, Err};
+ghost use Rattle.std.specs.Prelude.{◌≡◌, ℕ, List, IfOk, OnOk};
 ghost use Rattle.brk_model.specs.Ask.{read_broker_names};
 ghost use Rattle.brk_model.specs.Forms.{read_each_text, read_name, one_to_twenty_elements};
 ghost use Rattle.brk_model.specs.Lists.{distinct_texts};
-ghost use Rattle.brk_money.specs.declared.fault.Fault.TheVariants.{Memory};
 ghost use Rattle.brk_ref.specs.Fields.{ParsesAs, texts_of_fields};
 ghost use Rattle.brk_view_rows.specs.BrokerNames.{distinct_parsed_names, contains_name, names_of_vector, names_with_new_name};
 
-use brk_money::{Fault, Planned, Refusal};
+use brk_money::{Planned, Refusal};
 use brk_ref::Name;
-use std::alloc::Global;
+use std::alloc::{AllocError, Global};
 use std::marker::Model;
 
 /// The 1 to 20 different broker names that a query names, in the sequence of their first
@@ -61,9 +60,8 @@ fn is_among_names(name: &Name, names: &[Name]) -> bool
 }
 
 #[tactic(auto, using(crate::proofs::Distinct::still_distinct))]
-fn push_new_name(names: &mut Vec<Name>, name: Name) -> Result<(), Fault>
+fn push_new_name(names: &mut Vec<Name>, name: Name) -> Result<(), AllocError>
     ensures names { OnOk result (names.new.items ≡ names_with_new_name names.old.items name) }
-    ensures fault { OnErr result (result ≡ Err Memory) }
 {
     if !is_among_names(&name, names) {
         names.push(name)?;
@@ -71,10 +69,9 @@ fn push_new_name(names: &mut Vec<Name>, name: Name) -> Result<(), Fault>
     Ok(())
 }
 
-fn parse_distinct(alloc: Global, fields: &[&[u8]]) -> Planned<Vec<Name>>
+fn parse_distinct(alloc: Global, fields: &[&[u8]]) -> Planned<Vec<Name>, AllocError>
     ensures read { IfOk result (λ read. ParsesAs names_of_vector read (distinct_parsed_names (read_each_text read_name (texts_of_fields fields.now)))) }
     ensures distinct { IfOk result (λ read. IfOk read (λ names. distinct_texts names.items ≡ names.items)) }
-    ensures fault { OnErr result (result ≡ Err Memory) }
 {
     let mut names = Vec::new(alloc);
     for field in fields {
@@ -90,9 +87,8 @@ fn parse_distinct(alloc: Global, fields: &[&[u8]]) -> Planned<Vec<Name>>
 ///
 /// Refuses with `BadText` (18) if a field is malformed or there is no field, and otherwise with
 /// `TooMany` (20) if there are more than 20 different names.
-pub fn parse_brokers(alloc: Global, fields: &[&[u8]]) -> Planned<BrokerNames>
+pub fn parse_brokers(alloc: Global, fields: &[&[u8]]) -> Planned<BrokerNames, AllocError>
     ensures read { IfOk result (λ read. ParsesAs (λ names. names) read (read_broker_names (texts_of_fields fields.now))) }
-    ensures fault { OnErr result (result ≡ Err Memory) }
 {
     match parse_distinct(alloc, fields)? {
         Ok(names) => Ok(BrokerNames::from_distinct(names)),

@@ -1,12 +1,11 @@
 //! Trades that are looked up, with their settlement, cash row and history.
 
-ghost use Rattle.std.specs.Prelude.{◌≡◌, ◌&&◌, ◌==◌, ℕ, Bool, Err, IfOk, List, OnErr, bytes_eq, filter, flat_map, map, take};
+ghost use Rattle.std.specs.Prelude.{◌≡◌, ◌&&◌, ◌==◌, ℕ, Bool, IfOk, List, bytes_eq, filter, flat_map, map, take};
 ghost use Rattle.brk_ref.specs.Rows.{abstract_trade_row};
 ghost use Rattle.brk_model.specs.Joins.{trade_rows_oldest_first};
 ghost use Rattle.brk_model.specs.Lists.{contains_number, sort_by};
 ghost use Rattle.brk_model.specs.LookupView.{row_stamp_is_between, trade_lookup_records, trade_lookup_view};
 ghost use Rattle.brk_model.specs.Tables.{Tables};
-ghost use Rattle.brk_money.specs.declared.fault.Fault.TheVariants.{Memory};
 ghost use Rattle.brk_view_rows.specs.Lookup.{AreRowsOfTrade, records_of_looked_up_trade, rows_of_looked_up_trade};
 ghost use Rattle.brk_view_rows.specs.Lookup.{table_rows_of_trade, stamped_status_of_typed_history_row, is_older_trade, is_older_status};
 ghost use Rattle.brk_view_rows.specs.Views.{records_of_view};
@@ -14,9 +13,9 @@ ghost use Rattle.brk_view_rows.specs.declared.view.View.TheVariants as views;
 
 use crate::ordering::{Ranked, sort_by_rank};
 use crate::view::View;
-use brk_money::{Fault, Stamp, Status};
+use brk_money::{Stamp, Status};
 use brk_ref::{CashRow, HistoryRow, SettlementRow, TradeRow};
-use std::alloc::Global;
+use std::alloc::{AllocError, Global};
 
 /// A status of a trade and the stamp at which the trade reached it.
 #[derive(Clone, Copy)]
@@ -58,9 +57,8 @@ pub struct LookedUp {
     pub history: Vec<StampedStatus>,
 }
 
-fn sorted_statuses(alloc: Global, history: &[HistoryRow]) -> Result<Vec<StampedStatus>, Fault>
+fn sorted_statuses(alloc: Global, history: &[HistoryRow]) -> Result<Vec<StampedStatus>, AllocError>
     ensures order { IfOk result (λ moments. moments.items ≡ sort_by is_older_status (map stamped_status_of_typed_history_row history.now)) }
-    ensures fault { OnErr result (result ≡ Err Memory) }
 {
     let mut moments = Vec::new(alloc);
     for row in history {
@@ -81,12 +79,11 @@ pub fn create_looked_up_trade(
     settlement: Option<SettlementRow>,
     cash: Option<CashRow>,
     history: &[HistoryRow],
-) -> Result<LookedUp, Fault>
+) -> Result<LookedUp, AllocError>
     ensures records { IfOk result (λ found. (t : Tables) → AreRowsOfTrade t trade settlement cash history.now
         → records_of_looked_up_trade found ≡ trade_lookup_records t (abstract_trade_row trade)) }
     ensures rows { IfOk result (λ found. (t : Tables) → AreRowsOfTrade t trade settlement cash history.now
         → rows_of_looked_up_trade found ≡ table_rows_of_trade t (abstract_trade_row trade)) }
-    ensures fault { OnErr result (result ≡ Err Memory) }
 {
     let history = sorted_statuses(alloc, history)?;
     Ok(LookedUp {
@@ -99,9 +96,8 @@ pub fn create_looked_up_trade(
 
 /// Returns the trades sorted by the stamp of their current status, then by id, ascending.
 #[tactic(auto, using(crate::proofs::Shown::older_shown))]
-pub fn oldest_first(alloc: Global, trades: Vec<TradeRow>) -> Result<Vec<TradeRow>, Fault>
+pub fn oldest_first(alloc: Global, trades: Vec<TradeRow>) -> Result<Vec<TradeRow>, AllocError>
     ensures order { IfOk result (λ ordered. map abstract_trade_row ordered.items ≡ trade_rows_oldest_first (map abstract_trade_row trades.items)) }
-    ensures fault { OnErr result (result ≡ Err Memory) }
 {
     sort_by_rank(alloc, trades)
 }

@@ -1,12 +1,11 @@
-ghost use Rattle.std.specs.Prelude.{◌≡◌, ◌≤◌, Err, IfOk, OnErr, length, true};
+ghost use Rattle.std.specs.Prelude.{◌≡◌, ◌≤◌, IfOk, length, true};
 ghost use Rattle.brk_model.specs.Forms.{one_to_twenty_distinct_ids, read_distinct_ids};
 ghost use Rattle.brk_model.specs.Lists.{all_distinct};
-ghost use Rattle.brk_money.specs.declared.fault.Fault.TheVariants.{Memory};
 ghost use Rattle.brk_ref.specs.Fields.{ParsesAs, texts_of_fields};
 
 use brk_money::{Id, Planned, Refusal};
 use brk_ref_orders::{TradeIds, parse_trade_ids};
-use std::alloc::Global;
+use std::alloc::{AllocError, Global};
 
 /// The 1 to 20 different ids of trades that a query names.
 #[derive(Drop)]
@@ -31,9 +30,8 @@ impl NamedTrades {
 
 /// Parses the ids, one from each field. Refuses a malformed field with `BadText` (18), and
 /// otherwise as `NamedTrades::new` does.
-pub fn parse_named(alloc: Global, fields: &[&[u8]]) -> Planned<NamedTrades>
+pub fn parse_named(alloc: Global, fields: &[&[u8]]) -> Planned<NamedTrades, AllocError>
     ensures read { IfOk result (λ read. ParsesAs (λ named. named.trades) read (read_distinct_ids (texts_of_fields fields.now))) }
-    ensures fault { OnErr result (result ≡ Err Memory) }
 {
     match parse_trade_ids(alloc, fields)? {
         Ok(trades) => Ok(Ok(NamedTrades { trades })),

@@ -18,7 +18,7 @@ use crate::query::Query;
 use crate::view_name::ViewName;
 use brk_money::{Planned, Refusal};
 use brk_ref_orders::parse_trade_order;
-use std::alloc::Global;
+use std::alloc::{AllocError, Global};
 
 fn parse_submitted(arguments: &[&[u8]]) -> Result<Query, Refusal>
     ensures { ParsesAs abstract_query result (read_no_arguments SubmittedTrades (texts_of_fields arguments.now)) }
@@ -29,9 +29,8 @@ fn parse_submitted(arguments: &[&[u8]]) -> Result<Query, Refusal>
     Ok(Query::Submitted)
 }
 
-fn parse_estimate(alloc: Global, arguments: &[&[u8]]) -> Planned<Query>
+fn parse_estimate(alloc: Global, arguments: &[&[u8]]) -> Planned<Query, AllocError>
     ensures read { IfOk result (λ read. ParsesAs abstract_query read (read_and_wrap EstimateOf read_order (texts_of_fields arguments.now))) }
-    ensures fault { OnErr result (result ≡ Err Memory) }
 {
     match parse_trade_order(alloc, arguments)? {
         Ok(order) => Ok(Ok(Query::Estimate(order))),
@@ -50,9 +49,12 @@ fn parse_estimate(alloc: Global, arguments: &[&[u8]]) -> Planned<Query>
 /// well-formed with the first that applies of `BadQty` (8), `BadPrice` (9) and `BadType` (7), and
 /// other wrong arguments, such as a repeated trade id, with `BadText` (18).
 #[tactic(auto, unfolding(brk_model::specs::Ask::parse_query))]
-pub fn parse_for_view(alloc: Global, view: ViewName, arguments: &[&[u8]]) -> Planned<Query>
+pub fn parse_for_view(
+    alloc: Global,
+    view: ViewName,
+    arguments: &[&[u8]],
+) -> Planned<Query, AllocError>
     ensures read { IfOk result (λ read. ParsesAs abstract_query read (model.parse_query (text_of_view_name view) (texts_of_fields arguments.now))) }
-    ensures fault { OnErr result (result ≡ Err Memory) }
 {
     match view {
         ViewName::Submitted => Ok(parse_submitted(arguments)),
@@ -78,7 +80,7 @@ pub fn parse_query(alloc: Global, view: &str, arguments: &[&[u8]]) -> Planned<Qu
     ensures fault { OnErr result (result ≡ Err Memory) }
 {
     match ViewName::from_text(view) {
-        Some(view) => parse_for_view(alloc, view, arguments),
+        Some(view) => Ok(parse_for_view(alloc, view, arguments)?),
         None => Ok(Err(Refusal::BadText)),
     }
 }

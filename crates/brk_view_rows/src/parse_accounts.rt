@@ -1,16 +1,15 @@
-ghost use Rattle.std.specs.Prelude.{◌≡◌, IfOk, OnErr, Err};
+ghost use Rattle.std.specs.Prelude.{IfOk};
 ghost use Rattle.brk_model.specs.Ask.{read_single_argument};
 ghost use Rattle.brk_model.specs.Forms.{read_id, read_tax_id};
 ghost use Rattle.brk_model.specs.Parse.{read_and_wrap};
 ghost use Rattle.brk_model.specs.Queries.{PositionOf, PositionOfTaxId, RecentOf, StatusOf};
-ghost use Rattle.brk_money.specs.declared.fault.Fault.TheVariants.{Memory};
 ghost use Rattle.brk_ref.specs.Fields.{ParsesAs, texts_of_fields};
 ghost use Rattle.brk_view_rows.specs.Queries.{abstract_query};
 
 use crate::query::Query;
 use brk_money::{Planned, Refusal};
 use brk_ref::{TaxId, parse_id};
-use std::alloc::Global;
+use std::alloc::{AllocError, Global};
 
 pub(crate) fn parse_customer(arguments: &[&[u8]]) -> Result<Query, Refusal>
     ensures { ParsesAs abstract_query result (read_single_argument (read_and_wrap PositionOf read_id) (texts_of_fields arguments.now)) }
@@ -24,10 +23,9 @@ pub(crate) fn parse_customer(arguments: &[&[u8]]) -> Result<Query, Refusal>
     Ok(Query::Position(customer))
 }
 
-pub(crate) fn parse_by_tax_id(alloc: Global, arguments: &[&[u8]]) -> Planned<Query>
+pub(crate) fn parse_by_tax_id(alloc: Global, arguments: &[&[u8]]) -> Planned<Query, AllocError>
     ensures read { IfOk result (λ read. ParsesAs abstract_query read
         (read_single_argument (read_and_wrap PositionOfTaxId read_tax_id) (texts_of_fields arguments.now))) }
-    ensures fault { OnErr result (result ≡ Err Memory) }
 {
     let [tax_id] = arguments else {
         return Ok(Err(Refusal::BadText));

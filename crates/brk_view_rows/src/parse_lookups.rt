@@ -1,9 +1,8 @@
-ghost use Rattle.std.specs.Prelude.{◌≡◌, IfOk, OnErr, Err};
+ghost use Rattle.std.specs.Prelude.{IfOk};
 ghost use Rattle.brk_model.specs.Ask.{read_lots_query, read_value_and_stamps, read_volume_query};
 ghost use Rattle.brk_model.specs.Forms.{read_id, read_distinct_ids, read_symbol};
 ghost use Rattle.brk_model.specs.Parse.{read_and_wrap};
 ghost use Rattle.brk_model.specs.Queries.{TradesOfAccount, TradesOfSymbol, TradesWith};
-ghost use Rattle.brk_money.specs.declared.fault.Fault.TheVariants.{Memory};
 ghost use Rattle.brk_ref.specs.Fields.{ParsesAs, texts_of_fields};
 ghost use Rattle.brk_view_rows.specs.Queries.{abstract_query};
 
@@ -12,11 +11,10 @@ use crate::named_trades::parse_named;
 use crate::query::Query;
 use brk_money::{Planned, Refusal};
 use brk_ref::{Name, Span, Symbol, parse_id, parse_stamp};
-use std::alloc::Global;
+use std::alloc::{AllocError, Global};
 
-pub(crate) fn parse_trades(alloc: Global, arguments: &[&[u8]]) -> Planned<Query>
+pub(crate) fn parse_trades(alloc: Global, arguments: &[&[u8]]) -> Planned<Query, AllocError>
     ensures read { IfOk result (λ read. ParsesAs abstract_query read (read_and_wrap TradesWith read_distinct_ids (texts_of_fields arguments.now))) }
-    ensures fault { OnErr result (result ≡ Err Memory) }
 {
     match parse_named(alloc, arguments)? {
         Ok(trades) => Ok(Ok(Query::Trades(trades))),
@@ -44,10 +42,9 @@ pub(crate) fn parse_by_account(arguments: &[&[u8]]) -> Result<Query, Refusal>
     Ok(Query::AccountTrades { account, span })
 }
 
-pub(crate) fn parse_by_symbol(alloc: Global, arguments: &[&[u8]]) -> Planned<Query>
+pub(crate) fn parse_by_symbol(alloc: Global, arguments: &[&[u8]]) -> Planned<Query, AllocError>
     ensures read { IfOk result (λ read. ParsesAs abstract_query read
         (read_value_and_stamps read_symbol (λ symbol first last. TradesOfSymbol symbol first last) (texts_of_fields arguments.now))) }
-    ensures fault { OnErr result (result ≡ Err Memory) }
 {
     let [symbol, first, last] = arguments else {
         return Ok(Err(Refusal::BadText));
@@ -81,9 +78,8 @@ pub(crate) fn parse_lots(arguments: &[&[u8]]) -> Result<Query, Refusal>
 }
 
 #[tactic(auto, using(brk_ref::proofs::Applied::text_left, brk_ref::proofs::Applied::text_right))]
-pub(crate) fn parse_volume(alloc: Global, arguments: &[&[u8]]) -> Planned<Query>
+pub(crate) fn parse_volume(alloc: Global, arguments: &[&[u8]]) -> Planned<Query, AllocError>
     ensures read { IfOk result (λ read. ParsesAs abstract_query read (read_volume_query (texts_of_fields arguments.now))) }
-    ensures fault { OnErr result (result ≡ Err Memory) }
 {
     let [sector, names @ ..] = arguments else {
         return Ok(Err(Refusal::BadText));

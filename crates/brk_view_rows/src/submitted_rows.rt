@@ -14,11 +14,10 @@ ghost use Rattle.brk_view_rows.specs.declared.view.View.TheVariants as views;
 use crate::view::{SubmittedTrade, View};
 use brk_money::Fault;
 use brk_ref::TradeRow;
-use std::alloc::Global;
+use std::alloc::{AllocError, Global};
 
-fn submitted_trade(row: &TradeRow) -> Result<SubmittedTrade, Fault>
+fn submitted_trade(row: &TradeRow) -> Result<SubmittedTrade, AllocError>
     ensures shown { IfOk result (λ trade. submitted_trade_record trade ≡ record_of_submitted_row (abstract_trade_row row.now)) }
-    ensures fault { OnErr result (result ≡ Err Memory) }
 {
     let symbol = row.symbol.clone()?;
     Ok(SubmittedTrade {

@@ -1,8 +1,8 @@
 //! The parts of a statement: the header, the cash rows with the opening and the closing amount, and
 //! the lots with the totals.
 
-ghost use Rattle.std.specs.Prelude.{◌≤◌, IfErr};
-ghost use Rattle.brk_report.specs.StatementOutput.{PreservesDesk, IsLinesFaultOtherThanDamage, HoldsForStoredTables};
+ghost use Rattle.std.specs.Prelude.{◌≤◌};
+ghost use Rattle.brk_report.specs.StatementOutput.{PreservesDesk, HoldsForStoredTables};
 ghost use Rattle.brk_report.specs.StatementParts.{WritesCashAndClosingLines, lot_and_total_lines, statement_header_lines};
 ghost use Rattle.brk_report_lines.specs.Written.{WritesLines};
 
@@ -43,7 +43,6 @@ pub(crate) fn write_cash_part<W: Write, S: Alter>(
 ) -> Result<u64, LinesFault>
     requires { from ≤ to }
     ensures keeps { PreservesDesk S.Store desk.old desk.new }
-    ensures fault { IfErr result IsLinesFaultOtherThanDamage }
     ensures written { HoldsForStoredTables S.Store desk.old desk.new
         (λ t. WritesCashAndClosingLines t account from to opening (W.contents writer.old) (W.contents writer.new) result) }
 {
@@ -63,7 +62,6 @@ pub(crate) fn write_lot_part<W: Write, S: Alter>(
     writer: &mut W,
 ) -> Result<(), LinesFault>
     ensures keeps { PreservesDesk S.Store desk.old desk.new }
-    ensures fault { IfErr result IsLinesFaultOtherThanDamage }
     ensures written { HoldsForStoredTables S.Store desk.old desk.new
         (λ t. WritesLines (lot_and_total_lines t account holdings cash) (W.contents writer.old) (W.contents writer.new) result) }
 {

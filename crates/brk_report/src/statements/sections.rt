@@ -1,8 +1,8 @@
 //! The parts of a statement that are written row by row.
 
-ghost use Rattle.std.specs.Prelude.{◌≤◌, IfErr};
+ghost use Rattle.std.specs.Prelude.{◌≤◌};
 ghost use Rattle.brk_report.specs.CashWalk.{WritesCashLines, WritesLinesOfCashWalk};
-ghost use Rattle.brk_report.specs.StatementOutput.{PreservesDesk, IsLinesFaultOtherThanDamage, HoldsForStoredTables, WritesLotLines};
+ghost use Rattle.brk_report.specs.StatementOutput.{PreservesDesk, HoldsForStoredTables, WritesLotLines};
 ghost use Rattle.brk_store.specs.Walked.{cash_rows_in_span};
 
 use crate::statements::visitors::{CashLineWriter, CashProgress, LineWriter, ensure_opening};
@@ -26,7 +26,6 @@ fn walk_cash_lines<W: Write, S: Alter>(
     writer: &mut W,
 ) -> Result<CashProgress, LinesFault>
     ensures keeps { PreservesDesk S.Store desk.old desk.new }
-    ensures fault { IfErr result IsLinesFaultOtherThanDamage }
     ensures written { HoldsForStoredTables S.Store desk.old desk.new
         (λ t. WritesLinesOfCashWalk (cash_rows_in_span account 0 last t) first opening (W.contents writer.old) (W.contents writer.new) result) }
 {
@@ -59,7 +58,6 @@ pub(crate) fn write_cash_lines<W: Write, S: Alter>(
 ) -> Result<CashProgress, LinesFault>
     requires { from ≤ to }
     ensures keeps { PreservesDesk S.Store desk.old desk.new }
-    ensures fault { IfErr result IsLinesFaultOtherThanDamage }
     ensures written { HoldsForStoredTables S.Store desk.old desk.new
         (λ t. WritesCashLines t account from to opening (W.contents writer.old) (W.contents writer.new) result) }
 {
@@ -84,7 +82,6 @@ pub(crate) fn write_lot_lines<W: Write, S: Alter>(
     writer: &mut W,
 ) -> Result<u64, LinesFault>
     ensures keeps { PreservesDesk S.Store desk.old desk.new }
-    ensures fault { IfErr result IsLinesFaultOtherThanDamage }
     ensures written { HoldsForStoredTables S.Store desk.old desk.new (λ t. WritesLotLines t account (W.contents writer.old) (W.contents writer.new) result) }
 {
     let mut lines = LineWriter {

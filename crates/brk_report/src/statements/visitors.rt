@@ -1,19 +1,18 @@
 //! Visitors that write a line for each record, count the records, and add up their amounts.
 
-ghost use Rattle.std.specs.Prelude.{◌≡◌, ◌++◌, ◌∷◌, [], IfErr, IfOk, nat_lt};
+ghost use Rattle.std.specs.Prelude.{◌≡◌, ◌++◌, ◌∷◌, [], IfOk, nat_lt};
 ghost use Rattle.brk_ref.specs.Rows.{abstract_cash_row};
 ghost use Rattle.brk_money.specs.Spelling.{Text};
-ghost use Rattle.brk_model.specs.Run.{IsCallFault};
 ghost use Rattle.brk_model.specs.Statement.{cash_row_line};
 ghost use Rattle.brk_report.specs.CashWalk.{opening_line_unless_written};
 ghost use Rattle.brk_report_lines.specs.Written.{WritesLines, line_with_line_feed};
 
 use crate::totals::plus_amount;
 use brk_desk::Visitor;
-use brk_money::{Fault, Stamp, Wide};
+use brk_money::{CallFault, Stamp, Wide};
 use brk_ref::{CashRow, HoldingRow};
 use brk_report_lines::{LinesFault, amount_line, cash_row_line, lot_line, write_line};
-use std::alloc::Global;
+use std::alloc::{AllocError, Global};
 use std::io::Write;
 
 /// A record that a statement shows as one line.
@@ -22,9 +21,8 @@ pub trait Line {
     ghost line: { Self → Text };
 
     /// Returns the line of the record with its line feed.
-    fn line(&self, alloc: Global) -> Result<Vec<u8>, Fault>
-        ensures line { IfOk result (λ l. l.items ≡ line_with_line_feed (line self.now)) }
-        ensures fault { IfErr result IsCallFault };
+    fn line(&self, alloc: Global) -> Result<Vec<u8>, AllocError>
+        ensures line { IfOk result (λ l. l.items ≡ line_with_line_feed (line self.now)) };
 }
 
 impl Line for HoldingRow {
@@ -33,7 +31,7 @@ impl Line for HoldingRow {
 
     ghost line = { λ r. lot_line (abstract_holding_row r) };
 
-    fn line(&self, alloc: Global) -> Result<Vec<u8>, Fault> {
+    fn line(&self, alloc: Global) -> Result<Vec<u8>, AllocError> {
         lot_line(alloc, self)
     }
 }
@@ -44,7 +42,7 @@ impl Line for CashRow {
 
     ghost line = { λ r. cash_row_line (abstract_cash_row r) };
 
-    fn line(&self, alloc: Global) -> Result<Vec<u8>, Fault> {
+    fn line(&self, alloc: Global) -> Result<Vec<u8>, AllocError> {
         cash_row_line(alloc, self)
     }
 }
@@ -111,7 +109,7 @@ impl<R: Line, W: Write> Visitor<R, LinesFault> for LineWriter<'_, W> {
     /// states this).
     fn visit(&mut self, item: &R) -> Result<(), LinesFault> {
         let Some(count) = self.count.checked_add(1) else {
-            return Err(LinesFault::Desk(Fault::Store));
+            return Err(LinesFault::Desk(CallFault::Store));
         };
         write_line(self.writer, item.line(self.alloc))?;
         self.count = count;
@@ -185,7 +183,7 @@ impl<W: Write> Visitor<CashRow, LinesFault> for CashLineWriter<'_, W> {
             return Ok(());
         }
         let Some(count) = self.moved.count.checked_add(1) else {
-            return Err(LinesFault::Desk(Fault::Store));
+            return Err(LinesFault::Desk(CallFault::Store));
         };
         write_cash_row(self.alloc, self.moved, item, self.writer)?;
         self.moved = CashProgress {

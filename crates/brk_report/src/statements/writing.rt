@@ -1,6 +1,6 @@
-ghost use Rattle.std.specs.Prelude.{◌≤◌, IfErr};
+ghost use Rattle.std.specs.Prelude.{◌≤◌};
 ghost use Rattle.brk_report.specs.StatementParts.{all_statement_lines};
-ghost use Rattle.brk_report.specs.StatementOutput.{StatementPost, PreservesDesk, IsLinesFaultOtherThanDamage, HoldsForStoredTables};
+ghost use Rattle.brk_report.specs.StatementOutput.{StatementPost, PreservesDesk, HoldsForStoredTables};
 ghost use Rattle.brk_report_lines.specs.Written.{WritesLines};
 
 use crate::statements::parts::{write_cash_part, write_header, write_lot_part};
@@ -25,7 +25,6 @@ fn write_parts<W: Write, S: Alter>(
 ) -> Result<(), LinesFault>
     requires { from ≤ to }
     ensures keeps { PreservesDesk S.Store desk.old desk.new }
-    ensures fault { IfErr result IsLinesFaultOtherThanDamage }
     ensures written { HoldsForStoredTables S.Store desk.old desk.new
         (λ t. WritesLines (all_statement_lines t account head.now from to) (W.contents writer.old) (W.contents writer.new) result) }
 {

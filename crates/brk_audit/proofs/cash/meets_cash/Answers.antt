@@ -14,8 +14,8 @@ use Rattle.brk_audit.proofs.CashHolds.{moves_hold, none_left, sorted_own}
 use Rattle.brk_audit.proofs.Chain.{form_told}
 use Rattle.brk_audit.proofs.cash.meets_cash.Goals as goal
 
-pub returns-then-not-has_cash_move_table-clause-value : goal.returns-then-not-has_cash_move_table-clause-value
-returns-then-not-has_cash_move_table-clause-value c =
+pub returns-then-not-has_cash_move_table : goal.returns-then-not-has_cash_move_table
+returns-then-not-has_cash_move_table c =
     let terms : HasTerms c.in_ok-terms.terms c.args.sheets.now.accounts.items =
     λ id. c.in_ok-terms.ensures.terms id ∙ ap (λ accounts. option_map terms_of_account_row (find (λ a. a.account.id == id) accounts)) c.deref.ensures.value in
     let law = cash_holds (abstract_schema c.args.schema) c.args.sheets.now c.in_ok-terms.terms c.deref-then-not-has_cash_move_table.result.now
@@ -24,8 +24,8 @@ returns-then-not-has_cash_move_table-clause-value c =
     c.deref-then-not-has_cash_move_table.ensures.value c.deref-then-not-has_cash_move_table-2.ensures.value in
     ((λ h. law.0 (c.rows_fit_trades.ensures.0 h)), (λ h. c.rows_fit_trades.ensures.1 (law.1 h)))
 
-pub returns-clause-value : goal.returns-clause-value
-returns-clause-value c =
+pub returns : goal.returns
+returns c =
     let s : Sheets = c.args.sheets.now in
     let terms : HasTerms c.in_ok-terms.terms s.accounts.items =
     λ id. c.in_ok-terms.ensures.terms id ∙ ap (λ accounts. option_map terms_of_account_row (find (λ a. a.account.id == id) accounts)) c.deref.ensures.value in

@@ -43,8 +43,8 @@ loop-begin-preserved c =
           (c.loop-begin.invariant.left (made ++ more) next);
     }
 
-pub returns-clause-changes : goal.returns-clause-changes
-returns-clause-changes c =
+pub returns : goal.returns
+returns c =
     let done = c.args.done.now in
     let held : List HoldingHistoryRow = map abstract_deal_touch c.loop-begin.rows.items in
     let none : map seen (drop c.loop-begin.begin done) ≡ [] = ap (map seen) (drop_all c.loop-begin.begin done c.loop-begin-test.false) in

@@ -10,7 +10,7 @@ use Rattle.brk_model.specs.Keys.{holding_history_key, is_row_key_less}
 use Rattle.brk_model.specs.Tables.{Tables}
 use Rattle.brk_audit_theorems.proofs.FormBack.{All-unmapped}
 use Rattle.brk_trade_books.proofs.Order.{Sorted}
-use Rattle.brk_audit_sums.specs.Completed.{completed_trade_rows}
+use Rattle.brk_audit_sums.proofs.Sums.{completed_trade_rows}
 use Rattle.brk_audit.specs.Positions.{is_before_by_position}
 use Rattle.brk_audit.proofs.LotRows.{all_moved, clash_apart, clash_moved, priced_rows, rows_moved}
 use Rattle.brk_audit.proofs.MoveRows.{moves_told}
@@ -36,9 +36,9 @@ all_lot_changes-requires-clause-priced c =
     All-unmapped (λ r. IsSome r.price) seen c.deref-2.result.now
     (all_moved (λ r. IsSome r.price) (completed_trade_rows t) (map seen c.deref-2.result.now) p (priced_rows t c.requires.form c.requires.status))
 
-pub returns-clause-value : goal.returns-clause-value
+pub returns : goal.returns
 unfolding ConditionHolds
-returns-clause-value c = λ schema.
+returns c = λ schema.
     let t : Tables = abstract_sheets c.args.sheets.now in
     let done = c.deref-2.result.now in
     let rows = c.in_ok-rows.rows.items in
@@ -57,7 +57,7 @@ returns-clause-value c = λ schema.
     (key_order (λ x. holding_history_key (abstract_deal_touch x))) sorted c.sort_lot_changes.ensures.order) in
     let k : (map abstract_deal_touch sorted ≡ t.holding_history) ↔ (t.holding_history ≡ (expected_tables schema t).holding_history) =
     moves_told schema t c.requires.form c.requires.status (map seen done) (map abstract_deal_touch rows) (map abstract_deal_touch sorted) p o
-    c.in_ok-rows.ensures.changes q a in
+    c.in_ok-rows.ensures q a in
     let left : map abstract_deal_touch c.deref-3.result.now ≡ map abstract_deal_touch sorted = ap (map abstract_deal_touch) c.deref-3.ensures.value in
     let there : map abstract_lot_change_row c.deref-4.result.now ≡ t.holding_history = ap (map abstract_lot_change_row) c.deref-4.ensures.value in (
       (λ e. k.0 (sym left ∙ c.touches_equal.ensures.0 e ∙ there)),

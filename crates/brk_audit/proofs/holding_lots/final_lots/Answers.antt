@@ -47,7 +47,7 @@ loop-begin-preserved c =
     rows_are (seen x) run _ c.in_ok-position.position c.lots.result.now c.lots.ensures.lots c.lots.ensures.position c.in_ok-position.ensures.shares
     (deals_are (take (b + 1 + n - b) (drop b done)) run k.run) in
     let added : map abstract_holding_row c.append_lots.new.held.items ≡ held ++ holding_rows_left_by_trades (seen x) run =
-    c.in_ok-append_lots.ensures.added ∙ ap (λ (ms : List HoldingRow). held ++ ms) rows in
+    c.in_ok-append_lots.ensures ∙ ap (λ (ms : List HoldingRow). held ++ ms) rows in
     record {
       within = omega (arith, c.run_length.ensures.within, length-take (length done - (b + 1)) (drop (b + 1) done), length-drop (b + 1) done, c.loop-begin-test.true);
       left = λ more l.
@@ -59,8 +59,8 @@ loop-begin-preserved c =
           (c.loop-begin.invariant.left (holding_rows_left_by_trades (seen x) run ++ more) next);
     }
 
-pub returns-clause-left : goal.returns-clause-left
-returns-clause-left c =
+pub returns : goal.returns
+returns c =
     let done = c.args.done.now in
     let held : List HoldingRow = map abstract_holding_row c.loop-begin.held.items in
     let none : map seen (drop c.loop-begin.begin done) ≡ [] = ap (map seen) (drop_all c.loop-begin.begin done c.loop-begin-test.false) in

@@ -9,7 +9,7 @@ use Rattle.brk_model.specs.Audit.{ConditionHolds, expected_tables}
 use Rattle.brk_model.specs.Tables.{HoldingRow, Tables}
 use Rattle.brk_audit_theorems.proofs.FormBack.{All-unmapped}
 use Rattle.brk_trade_books.proofs.Order.{Sorted}
-use Rattle.brk_audit_sums.specs.Completed.{completed_trade_rows}
+use Rattle.brk_audit_sums.proofs.Sums.{completed_trade_rows}
 use Rattle.brk_audit.specs.Positions.{is_before_by_position}
 use Rattle.brk_audit.proofs.LotRows.{all_moved, clash_apart, clash_moved, lots_told, priced_rows, rows_moved}
 use Rattle.brk_trade_books.proofs.Orders.{Ascends, ascends, ascends_map, sorted_by, sorted_map}
@@ -34,9 +34,9 @@ final_lots-requires-clause-priced c =
     All-unmapped (λ r. IsSome r.price) seen c.deref-2.result.now
     (all_moved (λ r. IsSome r.price) (completed_trade_rows t) (map seen c.deref-2.result.now) p (priced_rows t c.requires.form c.requires.status))
 
-pub returns-clause-value : goal.returns-clause-value
+pub returns : goal.returns
 unfolding ConditionHolds
-returns-clause-value c = λ schema.
+returns c = λ schema.
     let t : Tables = abstract_sheets c.args.sheets.now in
     let done = c.deref-2.result.now in
     let held = c.in_ok-held.held.items in
@@ -54,7 +54,7 @@ returns-clause-value c = λ schema.
     let a : Ascends (λ h. h.trade) (map abstract_holding_row sorted) = ascends_map (λ (h : HoldingRow). h.trade) abstract_holding_row sorted (ascends (λ (h : code.HoldingRow). h.trade) sorted n) in
     let k : map abstract_holding_row sorted ≡ (expected_tables schema t).holdings =
     lots_told schema t c.requires.form c.requires.status (map seen done) (map abstract_holding_row held) (map abstract_holding_row sorted) p o
-    c.in_ok-held.ensures.left q a in
+    c.in_ok-held.ensures q a in
     let left : map abstract_holding_row c.deref-3.result.now ≡ map abstract_holding_row sorted = ap (map abstract_holding_row) c.deref-3.ensures.value in
     let there : map abstract_holding_row c.deref-4.result.now ≡ t.holdings = ap (map abstract_holding_row) c.deref-4.ensures.value in (
       (λ e. sym there ∙ sym (c.holdings_equal.ensures.0 e) ∙ left ∙ k),

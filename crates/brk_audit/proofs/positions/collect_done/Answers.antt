@@ -19,6 +19,6 @@ loop-row-preserved c =
           c.loop-row.done.items c.loop-row-test.true c.row-item.is c.loop-row.invariant (test ∙ w.if-eq.false)
     ]
 
-pub returns-clause-done : goal.returns-clause-done
-returns-clause-done c =
+pub returns : goal.returns
+returns c =
     c.loop-row.invariant ∙ ap (λ rows. filter is_completed_trade_row (map abstract_trade_row rows)) (take_all c.loop-row.row-index c.args.trades.now c.loop-row-test.false)

@@ -11,6 +11,6 @@ loop-row-preserved c =
     pushed_more abstract_deal (λ row. deal_of_completed_row (abstract_trade_row row.now)) c.args.run.now c.loop-row.row-index c.row-item.result
     c.loop-row.deals.items _ c.completed_deal.result c.loop-row-test.true c.row-item.is c.loop-row.invariant c.completed_deal.ensures c.in_ok-push.ensures.items
 
-pub returns-clause-deals : goal.returns-clause-deals
-returns-clause-deals c =
+pub returns : goal.returns
+returns c =
     c.loop-row.invariant ∙ ap (map (λ row. deal_of_completed_row (abstract_trade_row row.now))) (take_all c.loop-row.row-index c.args.run.now c.loop-row-test.false)

@@ -9,8 +9,8 @@ use Rattle.brk_audit.specs.Statuses.{all_histories_are_valid, movement_stamps_of
 use Rattle.brk_audit.proofs.StatusLaw.{status_holds}
 use Rattle.brk_audit.proofs.status.meets_status.Goals as goal
 
-pub returns-then-not-all_histories_are_valid-clause-value : goal.returns-then-not-all_histories_are_valid-clause-value
-returns-then-not-all_histories_are_valid-clause-value c = λ schema.
+pub returns-then-not-all_histories_are_valid : goal.returns-then-not-all_histories_are_valid
+returns-then-not-all_histories_are_valid c = λ schema.
     let t : Tables = abstract_sheets c.args.sheets.now in
     let go : c.all_histories_are_valid.result ≡ all_histories_are_valid t.trades t.history =
     c.all_histories_are_valid.ensures ∙ (λ i. all_histories_are_valid (map abstract_trade_row (c.deref.ensures.value i)) (map abstract_history_row (c.deref-2.ensures.value i))) in
@@ -19,13 +19,13 @@ returns-then-not-all_histories_are_valid-clause-value c = λ schema.
       (λ h. sym (and_left c.all_histories_are_valid.result (all_distinct (completion_stamps_of_history t.history ++ movement_stamps t)) c.if-not-all_histories_are_valid.true) ∙ law.1 h),
     )
 
-pub returns-clause-value : goal.returns-clause-value
-returns-clause-value c = λ schema.
+pub returns : goal.returns
+returns c = λ schema.
     let t : Tables = abstract_sheets c.args.sheets.now in
     let go : c.all_histories_are_valid.result ≡ all_histories_are_valid t.trades t.history =
     c.all_histories_are_valid.ensures ∙ (λ i. all_histories_are_valid (map abstract_trade_row (c.deref.ensures.value i)) (map abstract_history_row (c.deref-2.ensures.value i))) in
     let apart : c.in_ok-apart.apart ≡ all_distinct (completion_stamps_of_history t.history ++ movement_stamps t) =
-    c.in_ok-apart.ensures.value
+    c.in_ok-apart.ensures
     ∙ (λ i. all_distinct (completion_stamps_of_history (map abstract_history_row (c.deref-3.ensures.value i))
     ++ movement_stamps_of_cash_rows (map abstract_cash_row (c.deref-4.ensures.value i)))) in
     let law = status_holds schema t c.all_histories_are_valid.result c.in_ok-apart.apart c.requires.form go apart in (

@@ -4,8 +4,8 @@ use Rattle.std.specs.BTreeSet.{contains}
 use Rattle.brk_audit.proofs.Walks.{apart_more, apart_moved, moved_told, not_apart, not_distinct_front, not_apart_moved, seen_more, seen_moved, told_stamps}
 use Rattle.brk_audit.proofs.status.stamps_distinct.Goals as goal
 
-pub returns-then-not-branch-clause-value : goal.returns-then-not-branch-clause-value
-returns-then-not-branch-clause-value c =
+pub returns-then-not-branch : goal.returns-then-not-branch
+returns-then-not-branch c =
     let h = c.row-item.result in
     let no = sym c.in_ok-add_completion.ensures.new ∙ c.if-not-branch.true in
     sym (not_distinct_front (told_stamps c.args.history.now) (moved_told c.args.moves.now)
@@ -23,8 +23,8 @@ loop-row-preserved c =
           c.loop-row-test.true c.row-item.is (c.loop-row.invariant.seen h.stamp) yes c.loop-row.invariant.apart;
     }
 
-pub returns-then-not-branch-2-clause-value : goal.returns-then-not-branch-2-clause-value
-returns-then-not-branch-2-clause-value c =
+pub returns-then-not-branch-2 : goal.returns-then-not-branch-2
+returns-then-not-branch-2 c =
     let r = c.movement-item.result in
     let no = sym c.in_ok-add_movement.ensures.new ∙ c.if-not-branch-2.true in
     sym (not_apart_moved (told_stamps c.args.history.now) c.args.moves.now c.loop-movement.movement-index r (contains nat_cmp c.loop-movement.seen r.stamp)

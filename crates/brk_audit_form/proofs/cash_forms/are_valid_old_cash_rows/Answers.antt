@@ -8,8 +8,8 @@ use Rattle.brk_trade_rows.specs.Sheets.{abstract_sheets}
 use Rattle.brk_audit_form.proofs.CashNames.{all_not}
 use Rattle.brk_audit_form.proofs.cash_forms.are_valid_old_cash_rows.Goals as goal
 
-pub returns-then-not-is_formed-clause-value : goal.returns-then-not-is_formed-clause-value
-returns-then-not-is_formed-clause-value c =
+pub returns-then-not-is_formed : goal.returns-then-not-is_formed
+returns-then-not-is_formed c =
     let s = c.args.sheets.now in
     let t = abstract_sheets s in
     sym (list_all-map (is_well_formed_cash_transaction_row t) abstract_old_cash_row s.cash.items
@@ -17,8 +17,8 @@ returns-then-not-is_formed-clause-value c =
     ∙ all_not (λ r. is_well_formed_cash_transaction_row t (abstract_old_cash_row r)) c.deref-row-items.result.now c.loop-row.row-index c.row-item.result c.loop-row-test.true c.row-item.is
     (sym c.in_ok-is_formed.ensures.value ∙ c.if-not-is_formed.true))
 
-pub returns-clause-value : goal.returns-clause-value
-returns-clause-value c =
+pub returns : goal.returns
+returns c =
     let s = c.args.sheets.now in
     let t = abstract_sheets s in
     sym (list_all-map (is_well_formed_cash_transaction_row t) abstract_old_cash_row s.cash.items

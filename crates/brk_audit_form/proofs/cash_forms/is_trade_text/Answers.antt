@@ -8,8 +8,8 @@ use Rattle.brk_trade_rows.specs.Sheets.{abstract_sheets}
 use Rattle.brk_audit_form.proofs.CashNames.{text_same}
 use Rattle.brk_audit_form.proofs.cash_forms.is_trade_text.Goals as goal
 
-pub returns-then-eq-clause-value : goal.returns-then-eq-clause-value
-returns-then-eq-clause-value c =
+pub returns-then-eq : goal.returns-then-eq
+returns-then-eq c =
     let t = abstract_sheets c.args.sheets.now in
     let row = abstract_trade_row c.args.trade.now in
     let name = c.args.name.now in
@@ -18,8 +18,8 @@ returns-then-eq-clause-value c =
     ∙ text_same t (codes " shares of ") row in
     sym (ap (λ b. b || bytes_eq name other) (sym (c.eq.ensures ∙ ap (bytes_eq name) text) ∙ c.if-eq.true))
 
-pub returns-clause-value : goal.returns-clause-value
-returns-clause-value c =
+pub returns : goal.returns
+returns c =
     let t = abstract_sheets c.args.sheets.now in
     let row = abstract_trade_row c.args.trade.now in
     let name = c.args.name.now in

@@ -21,6 +21,6 @@ loop-row-preserved c = λ q.
     ∙ ap (λ row. length (filter (λ a. a.account.customer == q) (take i rows)) + cond (row.account.customer == q) 1 0) c.row-item.is
     ∙ sym (length-filter_more (λ a. a.account.customer == q) rows i c.row-item.result c.loop-row-test.true)
 
-pub returns-clause-counts : goal.returns-clause-counts
-returns-clause-counts c = λ q.
+pub returns : goal.returns
+returns c = λ q.
     c.loop-row.invariant q ∙ ap (λ l. length (filter (λ a. a.account.customer == q) l)) (take_all c.loop-row.row-index c.args.accounts.now c.loop-row-test.false)

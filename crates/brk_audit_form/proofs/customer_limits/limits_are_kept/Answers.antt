@@ -12,16 +12,16 @@ use Rattle.brk_audit_form.specs.Customers.{sum_at_customer_id}
 use Rattle.brk_audit_form.proofs.CustomerSums.{count-mapped}
 use Rattle.brk_audit_form.proofs.customer_limits.limits_are_kept.Goals as goal
 
-pub returns-clause-value : goal.returns-clause-value
+pub returns : goal.returns
 unfolding base_of_tables
-returns-clause-value c =
+returns c =
     let s = c.args.sheets.now in
     let t = abstract_sheets s in
     let counts = c.in_ok-counts.counts in
     let sums = c.in_ok-sums.sums in
     let e : (q : ℕ) → sum_at_customer_id counts q ≡ length (filter (λ a. a.customer == q) t.accounts) = λ q.
-    c.in_ok-counts.ensures.counts q ∙ ap (λ l. length (filter (λ a. a.account.customer == q) l)) c.deref.ensures.value ∙ count-mapped (λ a. a.customer == q) abstract_account_row s.accounts.items in
-    let f : (q : ℕ) → sum_at_customer_id sums q ≡ tax_rate_sum_of_customer (base_of_tables t) q = c.in_ok-sums.ensures.sums in
+    c.in_ok-counts.ensures q ∙ ap (λ l. length (filter (λ a. a.account.customer == q) l)) c.deref.ensures.value ∙ count-mapped (λ a. a.customer == q) abstract_account_row s.accounts.items in
+    let f : (q : ℕ) → sum_at_customer_id sums q ≡ tax_rate_sum_of_customer (base_of_tables t) q = c.in_ok-sums.ensures in
     c.all_keep_limits.ensures
     ∙ (λ i. list_all (λ k. nat_le (e k.id i) most_accounts_per_customer && nat_le (f k.id i) greatest_tax_rate) (c.deref-2.ensures.value i))
     ∙ sym (list_all-map (is_within_customer_limits t) abstract_customer s.customers.items)

@@ -7,8 +7,8 @@ use Rattle.brk_audit_form.specs.Customers.{rate_of_tax_rate_or_zero}
 use Rattle.brk_audit_form.proofs.CustomerSums.{sum-mapped}
 use Rattle.brk_audit_form.proofs.customer_limits.sum_tax_rates.Goals as goal
 
-pub returns-clause-sums : goal.returns-clause-sums
-returns-clause-sums c = λ q.
+pub returns : goal.returns
+returns c = λ q.
     let t = abstract_sheets c.args.sheets.now in
     let whole : take c.loop-row.row-index c.deref-row-items.result.now ≡ c.args.sheets.now.customer_taxes.items =
     take_all c.loop-row.row-index c.deref-row-items.result.now c.loop-row-test.false ∙ c.deref-row-items.ensures.value in

@@ -27,67 +27,67 @@ moves s = list_all (is_well_formed_cash_move_row (abstract_sheets s)) (map abstr
 abbrev owns : Sheets → Bool
 owns s = all_distinct (trade_ids_of_cash_rows (map abstract_cash_row s.moves.items))
 
-pub returns-then-not-passes_plain-clause-value : goal.returns-then-not-passes_plain-clause-value
+pub returns-then-not-passes_plain : goal.returns-then-not-passes_plain
 unfolding ConditionHolds
-returns-then-not-passes_plain-clause-value c =
+returns-then-not-passes_plain c =
     let s = c.args.sheets.now in
     let schema = abstract_schema c.args.schema in
     told false (satisfies_form_condition schema (abstract_sheets s))
     (sym (ap (λ b. b && own s && limits s && cash s && moves s && owns s) (sym c.passes_plain.ensures ∙ c.if-not-passes_plain.true)) ∙ form_told schema s)
 
-pub returns-then-not-has_distinct_tax_ids-clause-value : goal.returns-then-not-has_distinct_tax_ids-clause-value
+pub returns-then-not-has_distinct_tax_ids : goal.returns-then-not-has_distinct_tax_ids
 unfolding ConditionHolds
-returns-then-not-has_distinct_tax_ids-clause-value c =
+returns-then-not-has_distinct_tax_ids c =
     let s = c.args.sheets.now in
     let schema = abstract_schema c.args.schema in
     let plain = sym c.passes_plain.ensures ∙ c.if-not-passes_plain.false in
-    let first = sym (ap (λ l. has_distinct_tax_ids (map abstract_customer l)) c.deref.ensures.value) ∙ sym c.in_ok-has_distinct_tax_ids.ensures.value ∙ c.if-not-has_distinct_tax_ids.true in
+    let first = sym (ap (λ l. has_distinct_tax_ids (map abstract_customer l)) c.deref.ensures.value) ∙ sym c.in_ok-has_distinct_tax_ids.ensures ∙ c.if-not-has_distinct_tax_ids.true in
     told false (satisfies_form_condition schema (abstract_sheets s)) (sym (λ i. plain i && first i && limits s && cash s && moves s && owns s) ∙ form_told schema s)
 
-pub returns-then-not-has_limits-clause-value : goal.returns-then-not-has_limits-clause-value
+pub returns-then-not-has_limits : goal.returns-then-not-has_limits
 unfolding ConditionHolds
-returns-then-not-has_limits-clause-value c =
+returns-then-not-has_limits c =
     let s = c.args.sheets.now in
     let schema = abstract_schema c.args.schema in
     let plain = sym c.passes_plain.ensures ∙ c.if-not-passes_plain.false in
-    let first = sym (ap (λ l. has_distinct_tax_ids (map abstract_customer l)) c.deref.ensures.value) ∙ sym c.in_ok-has_distinct_tax_ids.ensures.value ∙ c.if-not-has_distinct_tax_ids.false in
-    let second = sym c.in_ok-has_limits.ensures.value ∙ c.if-not-has_limits.true in
+    let first = sym (ap (λ l. has_distinct_tax_ids (map abstract_customer l)) c.deref.ensures.value) ∙ sym c.in_ok-has_distinct_tax_ids.ensures ∙ c.if-not-has_distinct_tax_ids.false in
+    let second = sym c.in_ok-has_limits.ensures ∙ c.if-not-has_limits.true in
     told false (satisfies_form_condition schema (abstract_sheets s)) (sym (λ i. plain i && first i && second i && cash s && moves s && owns s) ∙ form_told schema s)
 
-pub returns-then-not-has_cash-clause-value : goal.returns-then-not-has_cash-clause-value
+pub returns-then-not-has_cash : goal.returns-then-not-has_cash
 unfolding ConditionHolds
-returns-then-not-has_cash-clause-value c =
+returns-then-not-has_cash c =
     let s = c.args.sheets.now in
     let schema = abstract_schema c.args.schema in
     let plain = sym c.passes_plain.ensures ∙ c.if-not-passes_plain.false in
-    let first = sym (ap (λ l. has_distinct_tax_ids (map abstract_customer l)) c.deref.ensures.value) ∙ sym c.in_ok-has_distinct_tax_ids.ensures.value ∙ c.if-not-has_distinct_tax_ids.false in
-    let second = sym c.in_ok-has_limits.ensures.value ∙ c.if-not-has_limits.false in
-    let third = sym c.in_ok-has_cash.ensures.value ∙ c.if-not-has_cash.true in
+    let first = sym (ap (λ l. has_distinct_tax_ids (map abstract_customer l)) c.deref.ensures.value) ∙ sym c.in_ok-has_distinct_tax_ids.ensures ∙ c.if-not-has_distinct_tax_ids.false in
+    let second = sym c.in_ok-has_limits.ensures ∙ c.if-not-has_limits.false in
+    let third = sym c.in_ok-has_cash.ensures ∙ c.if-not-has_cash.true in
     told false (satisfies_form_condition schema (abstract_sheets s)) (sym (λ i. plain i && first i && second i && third i && moves s && owns s) ∙ form_told schema s)
 
-pub returns-then-not-has_moves-clause-value : goal.returns-then-not-has_moves-clause-value
+pub returns-then-not-has_moves : goal.returns-then-not-has_moves
 unfolding ConditionHolds
-returns-then-not-has_moves-clause-value c =
+returns-then-not-has_moves c =
     let s = c.args.sheets.now in
     let schema = abstract_schema c.args.schema in
     let plain = sym c.passes_plain.ensures ∙ c.if-not-passes_plain.false in
-    let first = sym (ap (λ l. has_distinct_tax_ids (map abstract_customer l)) c.deref.ensures.value) ∙ sym c.in_ok-has_distinct_tax_ids.ensures.value ∙ c.if-not-has_distinct_tax_ids.false in
-    let second = sym c.in_ok-has_limits.ensures.value ∙ c.if-not-has_limits.false in
-    let third = sym c.in_ok-has_cash.ensures.value ∙ c.if-not-has_cash.false in
-    let fourth = sym c.in_ok-has_moves.ensures.value ∙ c.if-not-has_moves.true in
+    let first = sym (ap (λ l. has_distinct_tax_ids (map abstract_customer l)) c.deref.ensures.value) ∙ sym c.in_ok-has_distinct_tax_ids.ensures ∙ c.if-not-has_distinct_tax_ids.false in
+    let second = sym c.in_ok-has_limits.ensures ∙ c.if-not-has_limits.false in
+    let third = sym c.in_ok-has_cash.ensures ∙ c.if-not-has_cash.false in
+    let fourth = sym c.in_ok-has_moves.ensures ∙ c.if-not-has_moves.true in
     told false (satisfies_form_condition schema (abstract_sheets s)) (sym (λ i. plain i && first i && second i && third i && fourth i && owns s) ∙ form_told schema s)
 
-pub returns-clause-value : goal.returns-clause-value
+pub returns : goal.returns
 unfolding ConditionHolds
-returns-clause-value c =
+returns c =
     let s = c.args.sheets.now in
     let schema = abstract_schema c.args.schema in
     let plain = sym c.passes_plain.ensures ∙ c.if-not-passes_plain.false in
-    let first = sym (ap (λ l. has_distinct_tax_ids (map abstract_customer l)) c.deref.ensures.value) ∙ sym c.in_ok-has_distinct_tax_ids.ensures.value ∙ c.if-not-has_distinct_tax_ids.false in
-    let second = sym c.in_ok-has_limits.ensures.value ∙ c.if-not-has_limits.false in
-    let third = sym c.in_ok-has_cash.ensures.value ∙ c.if-not-has_cash.false in
-    let fourth = sym c.in_ok-has_moves.ensures.value ∙ c.if-not-has_moves.false in
+    let first = sym (ap (λ l. has_distinct_tax_ids (map abstract_customer l)) c.deref.ensures.value) ∙ sym c.in_ok-has_distinct_tax_ids.ensures ∙ c.if-not-has_distinct_tax_ids.false in
+    let second = sym c.in_ok-has_limits.ensures ∙ c.if-not-has_limits.false in
+    let third = sym c.in_ok-has_cash.ensures ∙ c.if-not-has_cash.false in
+    let fourth = sym c.in_ok-has_moves.ensures ∙ c.if-not-has_moves.false in
     let same = ap (λ l. all_distinct (trade_ids_of_cash_rows (map abstract_cash_row l))) c.deref-2.ensures.value in
     each_told c.trades_differ.result (satisfies_form_condition schema (abstract_sheets s))
-    (all_distinct (trade_ids_of_cash_rows (map abstract_cash_row c.deref-2.result.now))) c.trades_differ.ensures.value
+    (all_distinct (trade_ids_of_cash_rows (map abstract_cash_row c.deref-2.result.now))) c.trades_differ.ensures
     (same ∙ sym (λ i. plain i && first i && second i && third i && fourth i && owns s) ∙ form_told schema s)

@@ -6,8 +6,8 @@ use Rattle.brk_model.specs.Lists.{all_distinct}
 use Rattle.brk_audit_form.proofs.OwnRows.{not_own, own_more, seen_more, trades}
 use Rattle.brk_audit_form.proofs.own_rows.trades_differ.Goals as goal
 
-pub returns-then-not-branch-clause-value : goal.returns-then-not-branch-clause-value
-returns-then-not-branch-clause-value c =
+pub returns-then-not-branch : goal.returns-then-not-branch
+returns-then-not-branch c =
     let no = sym c.in_ok-insert_trade.ensures.new ∙ c.if-not-branch.true in
     sym (not_own c.args.moves.now c.loop-row.row-index c.row-item.result (contains nat_cmp c.loop-row.seen) c.loop-row-test.true c.row-item.is c.loop-row.invariant.seen no)
 
@@ -22,6 +22,6 @@ loop-row-preserved c =
       own = own_more c.args.moves.now c.loop-row.row-index r (contains nat_cmp c.loop-row.seen) c.loop-row-test.true c.row-item.is c.loop-row.invariant.seen yes c.loop-row.invariant.own;
     }
 
-pub returns-clause-value : goal.returns-clause-value
-returns-clause-value c =
+pub returns : goal.returns
+returns c =
     sym (ap (λ rs. all_distinct (trades rs)) (sym (take_all c.loop-row.row-index c.args.moves.now c.loop-row-test.false)) ∙ c.loop-row.invariant.own)

@@ -13,8 +13,8 @@ forth : (a b : Bool) → a ≡ not b → a ≡ true → b ≡ false
 forth a false e f = refl
 forth a true e f = absurd (cc)
 
-pub returns-then-not-added-clause-value : goal.returns-then-not-added-clause-value
-returns-then-not-added-clause-value c =
+pub returns-then-not-added : goal.returns-then-not-added
+returns-then-not-added c =
     let xs = c.args.customers.now in
     let i = c.loop-customer.customer-index in
     let x = c.customer-item.result in
@@ -37,6 +37,6 @@ loop-customer-preserved c =
           (sym (ap (λ k. list_any (λ d. bytes_eq k d.tax_id) (take i xs)) c.as_str-tax_id.ensures) ∙ sym (c.loop-customer.invariant.seen key) ∙ none);
     }
 
-pub returns-clause-value : goal.returns-clause-value
-returns-clause-value c =
+pub returns : goal.returns
+returns c =
     sym (ap are_own (sym (take_all c.loop-customer.customer-index c.args.customers.now c.loop-customer-test.false)) ∙ c.loop-customer.invariant.own) ∙ own-mapped c.args.customers.now

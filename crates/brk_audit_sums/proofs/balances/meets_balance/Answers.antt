@@ -12,17 +12,18 @@ use Rattle.brk_audit_theorems.proofs.Parts.{key_parts}
 use Rattle.brk_model_theorems.proofs.FormParts.{form_parts}
 use Rattle.brk_audit_sums.specs.declared.account_terms.AccountTerms.{AccountTerms}
 use Rattle.brk_audit_sums.specs.AccountTerms.{account_tax_status_in_terms, terms_of_account_row}
-use Rattle.brk_audit_sums.specs.Settling.{settlement_amount_at_tax_status, is_completed_cash_trade, account_tax_status_or_untaxed}
-use Rattle.brk_audit_sums.specs.Sums.{cash_posting_of_trade_row, movement_posting_of_row, sum_over_account_cash_trades}
+use Rattle.brk_audit_sums.specs.Settling.{settlement_amount_at_tax_status, is_completed_cash_trade}
+use Rattle.brk_audit_sums.specs.Sums.{cash_posting_of_trade_row, movement_posting_of_row}
 use Rattle.brk_audit_sums.specs.declared.tally.KeyedAmount.{KeyedAmount}
 use Rattle.brk_audit_sums.specs.Tally.{sum_at_key, total_amount_at_key}
 use Rattle.brk_audit_sums.proofs.AccountTerms.{HasTerms, same_tax_statuses}
 use Rattle.brk_audit_sums.proofs.Checked.{moved_sum, posted_sum, told_by, total_both}
 use Rattle.brk_audit_sums.proofs.SumRows.{balances_by_rows, moved_on}
 use Rattle.brk_audit_sums.proofs.balances.meets_balance.Goals as goal
+use Rattle.brk_audit_sums.proofs.Sums.{account_tax_status_or_untaxed, sum_over_account_cash_trades}
 
-pub returns-clause-value : goal.returns-clause-value
-returns-clause-value c = λ schema.
+pub returns : goal.returns
+returns c = λ schema.
     let s : Sheets = c.args.sheets.now in
     let t : Tables = abstract_sheets s in
     let terms : BTreeMap ℕ AccountTerms = c.in_ok-terms.terms in

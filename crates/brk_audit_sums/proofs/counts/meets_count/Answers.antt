@@ -12,15 +12,16 @@ use Rattle.brk_audit_theorems.proofs.Parts.{key_parts}
 use Rattle.brk_model_theorems.proofs.FormParts.{form_parts}
 use Rattle.brk_audit_sums.specs.declared.account_terms.AccountTerms.{AccountTerms}
 use Rattle.brk_audit_sums.specs.AccountTerms.{account_broker_in_terms, terms_of_account_row}
-use Rattle.brk_audit_sums.specs.Sums.{broker_posting_of_trade_row, sum_over_broker_trades}
+use Rattle.brk_audit_sums.specs.Sums.{broker_posting_of_trade_row}
 use Rattle.brk_audit_sums.specs.Tally.{sum_at_key, total_amount_at_key}
 use Rattle.brk_audit_sums.proofs.AccountTerms.{HasTerms}
 use Rattle.brk_audit_sums.proofs.Checked.{broker_sums, told_by}
 use Rattle.brk_audit_sums.proofs.SumRows.{counts_by_rows}
 use Rattle.brk_audit_sums.proofs.counts.meets_count.Goals as goal
+use Rattle.brk_audit_sums.proofs.Sums.{sum_over_broker_trades}
 
-pub returns-clause-value : goal.returns-clause-value
-returns-clause-value c = λ schema.
+pub returns : goal.returns
+returns c = λ schema.
     let s : Sheets = c.args.sheets.now in
     let t : Tables = abstract_sheets s in
     let terms : BTreeMap ℕ AccountTerms = c.in_ok-terms.terms in

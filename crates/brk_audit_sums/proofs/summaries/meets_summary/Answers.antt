@@ -6,19 +6,20 @@ use Rattle.brk_ref.specs.Rows.{abstract_summary_row, abstract_trade_row}
 use Rattle.brk_trade_rows.specs.Sheets.{abstract_sheets}
 use Rattle.brk_trade_rows.specs.declared.sheets.Sheets.{Sheets}
 use Rattle.brk_model.specs.Tables.{Tables}
-use Rattle.brk_audit_sums.specs.PositionSums.{position_cmp, share_posting_of_trade, share_posting_of_summary}
+use Rattle.brk_audit_sums.specs.PositionSums.{share_posting_of_trade, share_posting_of_summary}
 use Rattle.brk_ref.specs.declared.summary_row.SummaryRow.{SummaryRow}
 use Rattle.brk_audit_sums.specs.declared.tally.KeyedAmount.{KeyedAmount}
 use Rattle.brk_audit_sums.specs.Tally.{total_amount_at_key}
 use Rattle.brk_audit_sums.proofs.SummaryChecked.{Agree, Place, Tallied, they_agree, they_hold}
 use Rattle.brk_audit_sums.proofs.SummaryRows.{summaries_by_rows}
 use Rattle.brk_audit_sums.proofs.summaries.meets_summary.Goals as goal
+use Rattle.brk_audit_sums.proofs.Sums.{position_cmp}
 
 abbrev Tells : SummaryRow → Type 0
 Tells r = is_zero r.qty ≡ false
 
-pub returns-clause-value : goal.returns-clause-value
-returns-clause-value c = λ schema.
+pub returns : goal.returns
+returns c = λ schema.
     let s : Sheets = c.args.sheets.now in
     let t : Tables = abstract_sheets s in
     let ps : List (KeyedAmount Place) = c.in_ok-postings.postings.items in
@@ -27,7 +28,7 @@ returns-clause-value c = λ schema.
     let told : BTreeMap Place ℤ = c.in_ok-told.told in
     let w : Tallied s sums told ps cs = record {
       posted = c.in_ok-postings.ensures.all ∙ ap (filter_map (λ r. share_posting_of_trade (abstract_trade_row r))) c.deref.ensures.value;
-      claimed = c.in_ok-claims.ensures.all ∙ ap (map (λ r. share_posting_of_summary (abstract_summary_row r))) c.deref-2.ensures.value;
+      claimed = c.in_ok-claims.ensures ∙ ap (map (λ r. share_posting_of_summary (abstract_summary_row r))) c.deref-2.ensures.value;
       of_trades = λ q. c.in_ok-sums.ensures.sums q ∙ ap (λ xs. total_amount_at_key position_cmp xs q) c.deref-3.ensures.value;
       of_rows = λ q. c.in_ok-told.ensures.sums q ∙ ap (λ xs. total_amount_at_key position_cmp xs q) c.deref-4.ensures.value;
     } in

@@ -10,6 +10,6 @@ loop-row-preserved c =
     pushed_more posting_with_owned_symbol (λ r. share_posting_of_summary (abstract_summary_row r)) c.args.rows.now c.loop-row.row-index c.row-item.result c.loop-row.all.items _
     c.summary_posting.result c.loop-row-test.true c.row-item.is c.loop-row.invariant c.summary_posting.ensures c.in_ok-push.ensures.items
 
-pub returns-clause-all : goal.returns-clause-all
-returns-clause-all c =
+pub returns : goal.returns
+returns c =
     c.loop-row.invariant ∙ ap (map (λ r. share_posting_of_summary (abstract_summary_row r))) (take_all c.loop-row.row-index c.args.rows.now c.loop-row-test.false)

@@ -8,10 +8,10 @@ returns-in_ok-conn-in-Ok-clause-opened c =
     (inl (record {
       first = c.in_ok-first.first;
       desk = c.in-Ok.store;
-      began = c.in_ok-first.ensures.opened;
+      began = c.in_ok-first.ensures;
       created = c.in-Ok.ensures.created;
-      closed = c.in_ok-close_desk_file-in-Ok.ensures.closed;
-      opened = c.in_ok-conn-in-Ok.ensures.opened;
+      closed = c.in_ok-close_desk_file-in-Ok.ensures;
+      opened = c.in_ok-conn-in-Ok.ensures;
     }))
     c.adopt_file.ensures.adopted
 
@@ -19,5 +19,5 @@ pub returns-in-Err-default-Damaged-clause-opened :
     goal.returns-in-Err-default-Damaged-clause-opened
 returns-in-Err-default-Damaged-clause-opened c =
     let refused = c.in-Err-default-Damaged in
-    let taken = refused_taken c.in_ok-first.first refused.conn refused.field-0-1 refused.field-0-1-0 refused.field-0-1-is refused.ensures.fault c.in_ok-first.ensures.opened refused.ensures.created in
+    let taken = refused_taken c.in_ok-first.first refused.conn refused.field-0-1 refused.field-0-1-0 refused.field-0-1-is refused.ensures.fault c.in_ok-first.ensures refused.ensures.created in
     adopted_some refused.conn c.adopt_file-in-Err-default-Damaged.result (inr taken) c.adopt_file-in-Err-default-Damaged.ensures.adopted

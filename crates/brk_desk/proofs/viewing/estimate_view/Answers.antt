@@ -8,14 +8,14 @@ use Rattle.brk_desk_queries.specs.QueryResults.{AnswersQueryAsModel}
 use Rattle.brk_desk.proofs.EstimateViews.{estimate_refused, estimate_shown}
 use Rattle.brk_desk.proofs.viewing.estimate_view.Goals as goal
 
-pub returns-in-Ok-clause-read : goal.returns-in-Ok-clause-read
-returns-in-Ok-clause-read g c =
+pub returns-in-Ok : goal.returns-in-Ok
+returns-in-Ok g c =
     let order = abstract_order c.args.order.now in
     retold g.S.Store c.args.store.now c.compute_order_estimate.new.store (Ok c.in-Ok.estimate) (Ok (views.Estimate c.in-Ok.estimate)) (IsEstimateOfModel order) (AnswersQueryAsModel (EstimateOf order))
-    (estimate_shown order c.in-Ok.estimate) (rw c.in-Ok.is at c.in_ok-estimate.ensures.read)
+    (estimate_shown order c.in-Ok.estimate) (rw c.in-Ok.is at c.in_ok-estimate.ensures)
 
-pub returns-in-Err-clause-read : goal.returns-in-Err-clause-read
-returns-in-Err-clause-read g c =
+pub returns-in-Err : goal.returns-in-Err
+returns-in-Err g c =
     let order = abstract_order c.args.order.now in
     retold g.S.Store c.args.store.now c.compute_order_estimate.new.store (Err c.in-Err.refusal) (Err c.in-Err.refusal) (IsEstimateOfModel order) (AnswersQueryAsModel (EstimateOf order))
-    (estimate_refused order c.in-Err.refusal) (rw c.in-Err.is at c.in_ok-estimate.ensures.read)
+    (estimate_refused order c.in-Err.refusal) (rw c.in-Err.is at c.in_ok-estimate.ensures)

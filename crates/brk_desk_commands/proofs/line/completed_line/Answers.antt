@@ -7,14 +7,14 @@ use Rattle.brk_trade_plans.specs.Replies.{abstract_completion}
 use Rattle.brk_desk_commands.proofs.Joined.{added}
 use Rattle.brk_desk_commands.proofs.line.completed_line.Goals as goal
 
-pub returns-clause-line : goal.returns-clause-line
+pub returns : goal.returns
 unfolding reply_fields
-returns-clause-line c =
+returns c =
     let n = abstract_completion c.args.completed.now in
     let stamp = decimal c.args.completed.now.stamp in
     let due_day : Text = c.as_str.result.now in
     added 44 stamp (take 4 (completion_fields n)) (drop 4 (completion_fields n)) _ _
     (added 44 stamp (take 3 (completion_fields n)) (due_day ∷ []) _ _
     (added 44 stamp [] (take 3 (completion_fields n)) _ _ c.in_ok-line.ensures c.in_ok-append_amounts.ensures) c.in_ok-append_day.ensures
-    ∙ ap (λ (text : Text). join_with_byte 44 (stamp ∷ take 3 (completion_fields n) ++ text ∷ [])) (c.as_str.ensures.value ∙ c.in_ok-due_day.ensures.text))
+    ∙ ap (λ (text : Text). join_with_byte 44 (stamp ∷ take 3 (completion_fields n) ++ text ∷ [])) (c.as_str.ensures.value ∙ c.in_ok-due_day.ensures))
     c.in_ok-append_closing.ensures

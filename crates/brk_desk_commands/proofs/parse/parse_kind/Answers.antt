@@ -3,25 +3,25 @@ use Rattle.brk_ref.specs.Fields.{texts_of_fields}
 use Rattle.brk_desk_commands.proofs.Unknown.{no_party, other_text, same_text}
 use Rattle.brk_desk_commands.proofs.parse.parse_kind.Goals as goal
 
-pub returns-then-eq-clause-read : goal.returns-then-eq-clause-read
-returns-then-eq-clause-read c =
+pub returns-then-eq : goal.returns-then-eq
+returns-then-eq c =
     rw (same_text c.args.kind.now c.as_slice.result.now (codes "broker") c.eq.result c.eq.ensures c.as_slice.ensures c.if-eq.true)
-    c.broker_command.ensures.read
+    c.broker_command.ensures
 
-pub returns-then-eq-2-clause-read : goal.returns-then-eq-2-clause-read
-returns-then-eq-2-clause-read c =
+pub returns-then-eq-2 : goal.returns-then-eq-2
+returns-then-eq-2 c =
     rw (same_text c.args.kind.now c.as_slice-2.result.now (codes "customer") c.eq-2.result c.eq-2.ensures c.as_slice-2.ensures c.if-eq-2.true)
-    c.customer_command.ensures.read
+    c.customer_command.ensures
 
-pub returns-then-eq-3-clause-read : goal.returns-then-eq-3-clause-read
-returns-then-eq-3-clause-read c =
+pub returns-then-eq-3 : goal.returns-then-eq-3
+returns-then-eq-3 c =
     rw (same_text c.args.kind.now c.as_slice-3.result.now (codes "account") c.eq-3.result c.eq-3.ensures c.as_slice-3.ensures c.if-eq-3.true)
-    c.account_command.ensures.read
+    c.account_command.ensures
 
-pub returns-clause-read : goal.returns-clause-read
-returns-clause-read c =
+pub returns : goal.returns
+returns c =
     rw (no_party c.args.kind.now (texts_of_fields c.args.fields.now)
     (other_text c.args.kind.now c.as_slice.result.now (codes "broker") c.eq.result c.eq.ensures c.as_slice.ensures c.if-eq.false)
     (other_text c.args.kind.now c.as_slice-2.result.now (codes "customer") c.eq-2.result c.eq-2.ensures c.as_slice-2.ensures c.if-eq-2.false)
     (other_text c.args.kind.now c.as_slice-3.result.now (codes "account") c.eq-3.result c.eq-3.ensures c.as_slice-3.ensures c.if-eq-3.false))
-    c.record_of_kind.ensures.read
+    c.record_of_kind.ensures

@@ -8,8 +8,8 @@ use Rattle.brk_store.proofs.Retelling.{retold}
 use Rattle.brk_desk_decisions.proofs.OrderFinds.{find-filter}
 use Rattle.brk_desk_decisions.proofs.amounts.account_amounts.Goals as goal
 
-pub returns-in-Some-clause-read : goal.returns-in-Some-clause-read
-returns-in-Some-clause-read g c =
+pub returns-in-Some : goal.returns-in-Some
+returns-in-Some g c =
     let account = c.args.account.now in
     let symbol = c.args.symbol.now in
     let held = c.in_ok-held.held in

@@ -1,7 +1,7 @@
 use Rattle.std.proofs.Common.{◌≡◌, ◌∙◌, ◌+◌, ◌<◌, ℕ, List, [], ◌∷◌, ◌++◌, Ok, Some, None, Option, ap, get_or, length, subst, sym, take}
 use Rattle.std.proofs.lemmas.List.{take_all, take_more}
 use Rattle.std.proofs.lemmas.Result.{err_from_is_err_and}
-use Rattle.brk_money.specs.declared.fault.Fault.{Fault}
+use Rattle.brk_money.specs.declared.fault.CallFault.{CallFault}
 use Rattle.brk_model.specs.Tables.{Tables}
 use Rattle.brk_ref_orders.specs.declared.tick.Tick.{Tick}
 use Rattle.brk_trade_plans.specs.Feed.{states_of_quotes, has_no_state_of_symbol}
@@ -36,36 +36,36 @@ loop-tick-preserved g c =
     let before = c.loop-tick.quotes.items in
     let lacks : has_no_state_of_symbol (states_of_quotes before) tick ≡ c.has_no_quote_of_symbol.result =
     sym (ap (λ quotes. has_no_state_of_symbol (states_of_quotes quotes) tick) c.deref.ensures.value) ∙ sym c.has_no_quote_of_symbol.ensures in
-    let after : ReadPost {V = Unit {0}} {E = Fault} g.S.Store c.args.store.now c.if-has_no_quote_of_symbol.store (Ok tt)
+    let after : ReadPost {V = Unit {0}} {E = CallFault} g.S.Store c.args.store.now c.if-has_no_quote_of_symbol.store (Ok tt)
     (λ _. QuotesAndLastStampMatch ticks (take i ticks ++ tick ∷ []) (states_of_quotes c.if-has_no_quote_of_symbol.quotes.items) last) =
     elim c.if-has_no_quote_of_symbol.branch [
       | then-has_no_quote_of_symbol+in_ok-quote+in-Some+in_ok-push w ↦
           rw (w.store-is, w.quotes-is, w.in_ok-push.ensures.items)
-          (read_with g.S.Store c.args.store.now c.loop-tick.store w.read_tick_quote.new.store {X = Unit {0}} {H = Fault} tt (Some w.in-Some.quote) tt
+          (read_with g.S.Store c.args.store.now c.loop-tick.store w.read_tick_quote.new.store {X = Unit {0}} {H = CallFault} tt (Some w.in-Some.quote) tt
           (λ _. QuotesAndLastStampMatch ticks (take i ticks) (states_of_quotes before) last) (IsQuoteOfTickOrNone ticks tick)
           (λ _. QuotesAndLastStampMatch ticks (take i ticks ++ tick ∷ []) (states_of_quotes (before ++ w.in-Some.quote ∷ [])) last)
           (one_read ticks (take i ticks) tick before last w.in-Some.quote (i, c.loop-tick-test.true, sym c.tick-item.is) (lacks ∙ w.if-has_no_quote_of_symbol.true))
-          c.loop-tick.invariant (rw w.in-Some.is at w.in_ok-quote.ensures.read))
+          c.loop-tick.invariant (rw w.in-Some.is at w.in_ok-quote.ensures))
       | then-has_no_quote_of_symbol+in_ok-quote+in_default w ↦
           rw (w.store-is, w.quotes-is)
-          (read_with g.S.Store c.args.store.now c.loop-tick.store w.read_tick_quote.new.store {W = Option Quote} {X = Unit {0}} {H = Fault} tt None tt
+          (read_with g.S.Store c.args.store.now c.loop-tick.store w.read_tick_quote.new.store {W = Option Quote} {X = Unit {0}} {H = CallFault} tt None tt
           (λ _. QuotesAndLastStampMatch ticks (take i ticks) (states_of_quotes before) last) (IsQuoteOfTickOrNone ticks tick)
           (λ _. QuotesAndLastStampMatch ticks (take i ticks ++ tick ∷ []) (states_of_quotes before) last)
           (one_not_listed ticks (take i ticks) tick before last)
-          c.loop-tick.invariant (rw w.in_default.is at w.in_ok-quote.ensures.read))
+          c.loop-tick.invariant (rw w.in_default.is at w.in_ok-quote.ensures))
       | else-has_no_quote_of_symbol w ↦
           rw (w.store-is, w.quotes-is)
-          (retold g.S.Store c.args.store.now c.loop-tick.store {X = Unit {0}} {H = Fault} tt tt
+          (retold g.S.Store c.args.store.now c.loop-tick.store {X = Unit {0}} {H = CallFault} tt tt
           (λ _. QuotesAndLastStampMatch ticks (take i ticks) (states_of_quotes before) last) (λ _. QuotesAndLastStampMatch ticks (take i ticks ++ tick ∷ []) (states_of_quotes before) last)
           (one_quoted ticks (take i ticks) tick before last (lacks ∙ w.if-has_no_quote_of_symbol.false))
           c.loop-tick.invariant)
     ] in
-    subst (λ us. ReadPost {V = Unit {0}} {E = Fault} g.S.Store c.args.store.now c.if-has_no_quote_of_symbol.store (Ok tt)
+    subst (λ us. ReadPost {V = Unit {0}} {E = CallFault} g.S.Store c.args.store.now c.if-has_no_quote_of_symbol.store (Ok tt)
     (λ _. QuotesAndLastStampMatch ticks us (states_of_quotes c.if-has_no_quote_of_symbol.quotes.items) last))
     (one_more ticks i tick c.loop-tick-test.true c.tick-item.is) after
 
-pub returns-clause-read : goal.returns-clause-read
-returns-clause-read g c =
+pub returns : goal.returns
+returns g c =
     let ticks = c.args.ticks.now in
     let i = c.loop-tick.tick-index in
     let last = c.in_ok-last.last in
@@ -75,19 +75,19 @@ returns-clause-read g c =
     (λ t k. subst (λ us. QuotesAndLastStampMatch ticks us (states_of_quotes quotes.items) last t) (take_all i ticks c.loop-tick-test.false) k)
     c.loop-tick.invariant
 
-pub returns-in_err-push-clause-read : goal.returns-in_err-push-clause-read
-returns-in_err-push-clause-read g c =
+pub returns-in_err-push : goal.returns-in_err-push
+returns-in_err-push g c =
     let ticks = c.args.ticks.now in
     let tick = c.tick-item.result in
     let old = c.args.store.now in
     let p = err_from_is_err_and c.from_residual-in_err-push.result c.from_residual-in_err-push.ensures.1 in
     rw (p.1)
     (failed_after g.S.Store old c.loop-tick.store c.read_tick_quote.new.store (Ok c.in_ok-quote.field-0) p.0 (IsQuoteOfTickOrNone ticks tick) _
-    (single_read_changes_nothing old c.loop-tick.store _ _ c.loop-tick.invariant) c.in_ok-quote.ensures.read)
+    (single_read_changes_nothing old c.loop-tick.store _ _ c.loop-tick.invariant) c.in_ok-quote.ensures)
 
-pub returns-in_err-quote-clause-read : goal.returns-in_err-quote-clause-read
-returns-in_err-quote-clause-read g c =
+pub returns-in_err-quote : goal.returns-in_err-quote
+returns-in_err-quote g c =
     let old = c.args.store.now in
     let p = err_from_is_err_and c.from_residual-in_err-quote.result c.from_residual-in_err-quote.ensures.1 in
     rw p.1 (failed_after g.S.Store old c.loop-tick.store c.read_tick_quote.new.store _ p.0 _ _
-    (single_read_changes_nothing old c.loop-tick.store _ _ c.loop-tick.invariant) c.in_err-quote.ensures.read)
+    (single_read_changes_nothing old c.loop-tick.store _ _ c.loop-tick.invariant) c.in_err-quote.ensures)

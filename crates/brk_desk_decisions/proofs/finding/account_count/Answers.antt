@@ -7,11 +7,9 @@ use Rattle.brk_store.proofs.Retelling.{retold}
 use Rattle.brk_desk_decisions.proofs.finding.account_count.Goals as goal
 
 pub returns : goal.returns
-returns g c = record {
-  read = retold g.S.Store c.args.store.now c.accounts_of_customer.new.self c.in_ok-accounts_of_customer.field-0 c.len.result
-      (λ all (t : Tables). map abstract_account_row all.items ≡ filter (λ r. r.customer == c.args.customer) t.accounts) (λ count (t : Tables). count ≡ account_count_of_customer t c.args.customer)
-      (λ t e. c.len.ensures ∙ c.in_ok-accounts_of_customer.field-0.ok.0
-      ∙ are_counted abstract_account_row c.in_ok-accounts_of_customer.field-0.items (filter (λ r. r.customer == c.args.customer) t.accounts) e)
-      c.in_ok-accounts_of_customer.ensures.read;
-  fault = tt;
-}
+returns g c =
+    retold g.S.Store c.args.store.now c.accounts_of_customer.new.self c.in_ok-accounts_of_customer.field-0 c.len.result
+    (λ all (t : Tables). map abstract_account_row all.items ≡ filter (λ r. r.customer == c.args.customer) t.accounts) (λ count (t : Tables). count ≡ account_count_of_customer t c.args.customer)
+    (λ t e. c.len.ensures ∙ c.in_ok-accounts_of_customer.field-0.ok.0
+    ∙ are_counted abstract_account_row c.in_ok-accounts_of_customer.field-0.items (filter (λ r. r.customer == c.args.customer) t.accounts) e)
+    c.in_ok-accounts_of_customer.ensures.read

@@ -7,10 +7,8 @@ use Rattle.brk_store.proofs.Retelling.{retold}
 use Rattle.brk_desk_decisions.proofs.finding.customer_exists.Goals as goal
 
 pub returns : goal.returns
-returns g c = record {
-  read = retold g.S.Store c.args.store.now c.customer.new.self c.in_ok-customer.field-0 c.is_some.result
-      (λ o (t : Tables). option_map abstract_customer o ≡ find (λ r. r.id == c.args.id) t.customers) (λ there (t : Tables). there ≡ has_customer t c.args.id)
-      (λ t e. c.is_some.ensures ∙ is_there abstract_customer c.in_ok-customer.field-0 (find (λ r. r.id == c.args.id) t.customers) e)
-      c.in_ok-customer.ensures.read;
-  fault = tt;
-}
+returns g c =
+    retold g.S.Store c.args.store.now c.customer.new.self c.in_ok-customer.field-0 c.is_some.result
+    (λ o (t : Tables). option_map abstract_customer o ≡ find (λ r. r.id == c.args.id) t.customers) (λ there (t : Tables). there ≡ has_customer t c.args.id)
+    (λ t e. c.is_some.ensures ∙ is_there abstract_customer c.in_ok-customer.field-0 (find (λ r. r.id == c.args.id) t.customers) e)
+    c.in_ok-customer.ensures.read

@@ -8,8 +8,8 @@ use Rattle.brk_trade_plans.specs.declared.reference.ReferenceFacts.{ReferenceFac
 use Rattle.brk_store.proofs.Retelling.{retold}
 use Rattle.brk_desk_decisions.proofs.finding.security_facts.Goals as goal
 
-pub returns-clause-read : goal.returns-clause-read
-returns-clause-read g c =
+pub returns : goal.returns
+returns g c =
     retold g.S.Store c.args.store.now c.security.new.self c.in_ok-security.field-0 _
     (λ o (t : Tables). option_map abstract_security_row o ≡ find (λ r. bytes_eq r.symbol c.args.symbol.now) t.securities)
     (λ (found : ReferenceFacts) (t : Tables). found.same_id ≡ has_security t c.args.symbol.now)

@@ -7,8 +7,8 @@ use Rattle.brk_trade_plans.specs.declared.reference.ReferenceFacts.{ReferenceFac
 use Rattle.brk_store.proofs.Retelling.{retold}
 use Rattle.brk_desk_decisions.proofs.finding.tax_facts.Goals as goal
 
-pub returns-clause-read : goal.returns-clause-read
-returns-clause-read g c =
+pub returns : goal.returns
+returns g c =
     retold g.S.Store c.args.store.now c.tax_with_id.new.self c.in_ok-tax_with_id.field-0 _
     (λ o (t : Tables). option_map abstract_tax_rate o ≡ find (λ r. r.id == c.args.id) t.tax_rates) (λ (found : ReferenceFacts) (t : Tables). found.same_id ≡ contains_tax_rate t c.args.id)
     (λ t e. c.is_some-same_id.ensures ∙ is_there abstract_tax_rate c.in_ok-tax_with_id.field-0 (find (λ r. r.id == c.args.id) t.tax_rates) e)

@@ -10,8 +10,8 @@ use Rattle.brk_store.specs.ReadSequences.{single_read_changes_nothing}
 use Rattle.brk_store.proofs.Sequences.{failed_after}
 use Rattle.brk_desk_decisions.proofs.order.decide_order.Goals as goal
 
-pub returns-clause-read : goal.returns-clause-read
-returns-clause-read g c =
+pub returns : goal.returns
+returns g c =
     let old = c.args.store.now in
     let mid = c.order_facts.new.store in
     let end = c.plan_order_over_lots.new.lots.store.now in
@@ -20,14 +20,14 @@ returns-clause-read g c =
     let found = c.in_ok-found.found in
     read_at g.S.Store old end _ (search rules) c.plan_order_over_lots.result (DecidesCommand c.args.now (PlaceOrder (abstract_order order)))
     (decided_on g.S.Store old mid end found (OrderFactsAndLastStampMatch order last) (DecidesCommand c.args.now (PlaceOrder (abstract_order order))) c.plan_order_over_lots.result
-    (order_read g.S.Store old c.last_stamp.new.self mid order last found c.in_ok-last.ensures.read c.in_ok-found.ensures.read)
+    (order_read g.S.Store old c.last_stamp.new.self mid order last found c.in_ok-last.ensures.read c.in_ok-found.ensures)
     (rw c.lot_pages-lots.ensures.same at c.plan_order_over_lots.ensures.store_unchanged)
     (λ clean. order_decided order found last c.args.now _ c.get-moment.ensures.high (HoldsRows g.S.Store mid)
     (λ t h. (clean, c.lot_pages-lots.ensures.remaining t h)) c.plan_order_over_lots.result c.plan_order_over_lots.ensures.planned))
 
-pub returns-in_err-found-clause-read : goal.returns-in_err-found-clause-read
-returns-in_err-found-clause-read g c =
+pub returns-in_err-found : goal.returns-in_err-found
+returns-in_err-found g c =
     let old = c.args.store.now in
     let p = err_from_is_err_and c.from_residual-in_err-found.result c.from_residual-in_err-found.ensures.1 in
     rw p.1 (failed_after g.S.Store old c.last_stamp.new.self c.order_facts.new.store _ p.0 _ _
-    (single_read_changes_nothing old c.last_stamp.new.self _ _ c.in_ok-last.ensures.read) c.in_err-found.ensures.read)
+    (single_read_changes_nothing old c.last_stamp.new.self _ _ c.in_ok-last.ensures.read) c.in_err-found.ensures)

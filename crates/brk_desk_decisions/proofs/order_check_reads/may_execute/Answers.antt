@@ -8,8 +8,8 @@ use Rattle.brk_store.proofs.Retelling.{retold}
 use Rattle.brk_desk_decisions.proofs.OrderFinds.{listed}
 use Rattle.brk_desk_decisions.proofs.order_check_reads.may_execute.Goals as goal
 
-pub returns-clause-read : goal.returns-clause-read
-returns-clause-read g c =
+pub returns : goal.returns
+returns g c =
     retold g.S.Store c.args.store.now c.permission.new.self c.in_ok-permission.permission c.permitted.result
     (λ o (t : Tables). option_map abstract_permission o ≡ find (λ r. (r.account == c.args.account) && bytes_eq r.tax_id c.args.executor.now.tax_id) t.permissions)
     (λ is (t : Tables). is

@@ -8,8 +8,8 @@ use Rattle.brk_trade_books.specs.TradeReads.{commission_band_of_quantity}
 use Rattle.brk_store.proofs.Retelling.{retold}
 use Rattle.brk_desk_decisions.proofs.order_check_reads.read_band_rate.Goals as goal
 
-pub returns-clause-read : goal.returns-clause-read
-returns-clause-read g c =
+pub returns : goal.returns
+returns g c =
     retold g.S.Store c.args.store.now c.commission_bands.new.self c.in_ok-bands.bands c.band_for.result
     (λ all (t : Tables). map abstract_band all.items ≡ filter (λ (r : Band). (r.tier == c.args.tier) && is_same_trade_type r.kind c.args.kind && bytes_eq r.exchange c.args.exchange.now) t.bands)
     (λ rate (t : Tables). rate ≡ option_map (λ (b : Band). b.rate) (commission_band_of_quantity t c.args.tier c.args.kind c.args.exchange.now c.args.qty))

@@ -8,8 +8,8 @@ use Rattle.brk_store.specs.ReadSequences.{single_read_changes_nothing}
 use Rattle.brk_store.proofs.Sequences.{failed_after}
 use Rattle.brk_desk_decisions.proofs.result.decide_result.Goals as goal
 
-pub returns-clause-read : goal.returns-clause-read
-returns-clause-read g c =
+pub returns : goal.returns
+returns g c =
     let old = c.args.store.now in
     let mid = c.facts_of_result.new.store in
     let end = c.result_of_facts.new.store in
@@ -23,8 +23,8 @@ returns-clause-read g c =
     (λ clean. result_decided id price last c.args.now c.get-moment.ensures.high found c.in_ok-found.ensures.some_shares (HoldsRows g.S.Store mid)
     c.result_of_facts.result (c.result_of_facts.ensures.planned clean))
 
-pub returns-in_err-found-clause-read : goal.returns-in_err-found-clause-read
-returns-in_err-found-clause-read g c =
+pub returns-in_err-found : goal.returns-in_err-found
+returns-in_err-found g c =
     let old = c.args.store.now in
     let p = err_from_is_err_and c.from_residual-in_err-found.result c.from_residual-in_err-found.ensures.1 in
     rw p.1 (failed_after g.S.Store old c.last_stamp.new.self c.facts_of_result.new.store _ p.0 _ _

@@ -1,4 +1,5 @@
 use Rattle.std.proofs.Common.{arith}
+use Rattle.brk_desk_decisions.proofs.SameValues.{same_value}
 use Rattle.brk_desk_decisions.proofs.result.plan_result_over_lots.Goals as goal
 
 pub returns-clause-same_reference : goal.returns-clause-same_reference
@@ -9,3 +10,6 @@ returns-clause-store_unchanged g c = c.plan_result.ensures.leads.1
 
 pub returns-clause-few_rows_read : goal.returns-clause-few_rows_read
 returns-clause-few_rows_read g c ls met = omega (arith, c.plan_result.ensures.asked ls met, c.plan_result.new.source.page.few)
+
+pub returns-clause-planned : goal.returns-clause-planned
+returns-clause-planned g c = same_value c.plan_result.result c.map_err.result _ _ c.map_err.ensures.cases c.plan_result.ensures.planned

@@ -4,6 +4,7 @@ use Rattle.sqlite.specs.State.{HasCleanDisk}
 use Rattle.brk_store_transactions.specs.Holds.{HoldsRows}
 use Rattle.brk_store.specs.ReadSequences.{empty_read_sequence_changes_nothing}
 use Rattle.brk_store.proofs.ReadResults.{kept_at}
+use Rattle.brk_desk_decisions.proofs.SameValues.{same_value}
 use Rattle.brk_desk_decisions.proofs.Resulting.{none_over, result_over}
 use Rattle.brk_desk_decisions.proofs.result.result_of_facts.Goals as goal
 
@@ -23,4 +24,5 @@ returns-in-None-clause-store_unchanged g c = empty_read_sequence_changes_nothing
 
 pub returns-in-None-clause-planned : goal.returns-in-None-clause-planned
 returns-in-None-clause-planned g c clean =
-    rw c.in-None.is (none_over (HoldsRows g.S.Store c.args.store.now) c.plan_result.result c.plan_result.ensures.planned)
+    rw c.in-None.is
+    (none_over (HoldsRows g.S.Store c.args.store.now) c.map_err.result (same_value c.plan_result.result c.map_err.result _ _ c.map_err.ensures.cases c.plan_result.ensures.planned))

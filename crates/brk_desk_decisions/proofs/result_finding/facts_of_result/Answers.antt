@@ -1,5 +1,5 @@
 use Rattle.std.proofs.Common.{◌≡◌, ◌==◌, None, Option, Some, find, option_map, sym}
-use Rattle.brk_money.specs.declared.fault.Fault.{Fault}
+use Rattle.brk_money.specs.declared.fault.CallFault.{CallFault}
 use Rattle.brk_model.specs.Tables as tables
 use Rattle.brk_model.specs.Tables.{Tables}
 use Rattle.brk_ref.specs.Rows.{abstract_trade_row}
@@ -17,7 +17,7 @@ pub returns-in_ok-found-in-Some-clause-read : goal.returns-in_ok-found-in-Some-c
 returns-in_ok-found-in-Some-clause-read g c =
     let row : TradeRow = c.in-Some.row in
     let found = c.in_ok-found-in-Some.found in
-    read_with g.S.Store c.args.store.now c.trade.new.self c.trade_facts.new.store {H = Fault} (Some row) found (Some found)
+    read_with g.S.Store c.args.store.now c.trade.new.self c.trade_facts.new.store {H = CallFault} (Some row) found (Some found)
     (λ o (t : Tables). option_map abstract_trade_row o ≡ find (λ (r : tables.TradeRow). r.id == c.args.trade) t.trades)
     (λ found (t : Tables). AreResultFactsOfTrade t row found)
     (λ o (t : Tables). AreResultFactsOfTradeWithId t c.args.trade o)

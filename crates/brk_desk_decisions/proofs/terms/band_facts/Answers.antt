@@ -11,8 +11,8 @@ use Rattle.brk_trade_plans.specs.declared.reference.ReferenceFacts.{ReferenceFac
 use Rattle.brk_store.proofs.Retelling.{retold}
 use Rattle.brk_desk_decisions.proofs.terms.band_facts.Goals as goal
 
-pub returns-clause-read : goal.returns-clause-read
-returns-clause-read g c =
+pub returns : goal.returns
+returns g c =
     let b = abstract_band c.args.band.now in
     retold g.S.Store c.args.store.now c.commission_bands.new.self c.in_ok-bands.bands _
     (λ all (t : Tables). map abstract_band all.items ≡ filter (λ (r : Band). (r.tier == b.tier) && is_same_trade_type r.kind b.kind && bytes_eq r.exchange b.exchange) t.bands)

@@ -9,8 +9,8 @@ use Rattle.brk_trade_plans.specs.declared.reference.ReferenceFacts.{ReferenceFac
 use Rattle.brk_store.proofs.Retelling.{retold}
 use Rattle.brk_desk_decisions.proofs.terms.charge_facts.Goals as goal
 
-pub returns-clause-read : goal.returns-clause-read
-returns-clause-read g c =
+pub returns : goal.returns
+returns g c =
     retold g.S.Store c.args.store.now c.charge.new.self c.in_ok-charge.field-0 _
     (λ o (t : Tables). option_map abstract_charge o ≡ find (λ r. is_same_trade_type r.kind c.args.charge.now.kind && (r.tier == c.args.charge.now.tier))
     t.charges) (λ (found : ReferenceFacts) (t : Tables). found.same_id ≡ contains_charge t c.args.charge.now.kind c.args.charge.now.tier)

@@ -9,12 +9,10 @@ use Rattle.brk_store.proofs.Retelling.{retold}
 use Rattle.brk_desk_decisions.proofs.terms.limited_tax_sum.Goals as goal
 
 pub returns : goal.returns
-returns g c = record {
-  read = retold g.S.Store c.args.store.now c.read_taxes.new.store c.in_ok-taxes.taxes c.tax_sum.result
-      (λ taxes (t : Tables). map (λ tax. Some (abstract_tax_rate tax)) taxes.items ≡ map (λ r. tax_rate_with_id t r.tax) (filter (λ r. r.customer == c.args.customer) t.customer_taxes))
-      (λ rates (t : Tables). SomeIff rates (customer_tax_rate_sum t c.args.customer ≤ greatest_tax_rate) (customer_tax_rate_sum t c.args.customer))
-      (λ t e. subst (λ n. SomeIff c.tax_sum.result (n ≤ greatest_tax_rate) n)
-      (ap (sum_by (λ tax. tax.rate)) c.deref.ensures.value ∙ taxes_found t c.args.customer c.in_ok-taxes.taxes.items e) c.tax_sum.ensures)
-      c.in_ok-taxes.ensures.read;
-  fault = tt;
-}
+returns g c =
+    retold g.S.Store c.args.store.now c.read_taxes.new.store c.in_ok-taxes.taxes c.tax_sum.result
+    (λ taxes (t : Tables). map (λ tax. Some (abstract_tax_rate tax)) taxes.items ≡ map (λ r. tax_rate_with_id t r.tax) (filter (λ r. r.customer == c.args.customer) t.customer_taxes))
+    (λ rates (t : Tables). SomeIff rates (customer_tax_rate_sum t c.args.customer ≤ greatest_tax_rate) (customer_tax_rate_sum t c.args.customer))
+    (λ t e. subst (λ n. SomeIff c.tax_sum.result (n ≤ greatest_tax_rate) n)
+    (ap (sum_by (λ tax. tax.rate)) c.deref.ensures.value ∙ taxes_found t c.args.customer c.in_ok-taxes.taxes.items e) c.tax_sum.ensures)
+    c.in_ok-taxes.ensures

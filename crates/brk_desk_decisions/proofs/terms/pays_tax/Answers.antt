@@ -8,11 +8,9 @@ use Rattle.brk_store.proofs.Retelling.{retold}
 use Rattle.brk_desk_decisions.proofs.terms.pays_tax.Goals as goal
 
 pub returns : goal.returns
-returns g c = record {
-  read = retold g.S.Store c.args.store.now c.customer_tax.new.self c.in_ok-customer_tax.field-0 c.is_some.result
-      (λ o (t : Tables). option_map abstract_customer_tax o ≡ find (λ r. (r.customer == c.args.customer) && (r.tax == c.args.tax)) t.customer_taxes)
-      (λ there (t : Tables). there ≡ contains_customer_tax t c.args.customer c.args.tax)
-      (λ t e. c.is_some.ensures ∙ is_there abstract_customer_tax c.in_ok-customer_tax.field-0 (find (λ r. (r.customer == c.args.customer) && (r.tax == c.args.tax)) t.customer_taxes) e)
-      c.in_ok-customer_tax.ensures.read;
-  fault = tt;
-}
+returns g c =
+    retold g.S.Store c.args.store.now c.customer_tax.new.self c.in_ok-customer_tax.field-0 c.is_some.result
+    (λ o (t : Tables). option_map abstract_customer_tax o ≡ find (λ r. (r.customer == c.args.customer) && (r.tax == c.args.tax)) t.customer_taxes)
+    (λ there (t : Tables). there ≡ contains_customer_tax t c.args.customer c.args.tax)
+    (λ t e. c.is_some.ensures ∙ is_there abstract_customer_tax c.in_ok-customer_tax.field-0 (find (λ r. (r.customer == c.args.customer) && (r.tax == c.args.tax)) t.customer_taxes) e)
+    c.in_ok-customer_tax.ensures.read

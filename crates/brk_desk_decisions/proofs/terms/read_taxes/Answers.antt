@@ -1,6 +1,6 @@
 use Rattle.std.proofs.Common.{◌≡◌, ◌==◌, ◌∙◌, ◌+◌, ◌<◌, ℕ, List, [], ◌∷◌, ◌++◌, Some, ap, filter, find, get_or, length, map, option_map, refl, sym, take}
 use Rattle.std.proofs.lemmas.List.{map-append, take_all, take_more}
-use Rattle.brk_money.specs.declared.fault.Fault.{Fault}
+use Rattle.brk_money.specs.declared.fault.CallFault.{CallFault}
 use Rattle.brk_model.specs.Records.{CustomerTax, TaxRate}
 use Rattle.brk_model.specs.Tables.{Tables}
 use Rattle.brk_ref.specs.Records.{abstract_customer_tax, abstract_tax_rate}
@@ -42,7 +42,7 @@ loop-row-preserved g c =
     let rows = c.deref-row-items.result.now in
     let i = c.loop-row.row-index in
     let tax = c.in-Some.tax in
-    read_with g.S.Store c.args.store.now c.loop-row.store c.tax_with_id.new.self {H = Fault} tt (Some tax) tt
+    read_with g.S.Store c.args.store.now c.loop-row.store c.tax_with_id.new.self {H = CallFault} tt (Some tax) tt
     (λ _. FirstTaxes c.args.customer rows c.loop-row.taxes.items i)
     (λ o (t : Tables). option_map abstract_tax_rate o ≡ find (λ (r : TaxRate). r.id == c.row-item.result.tax) t.tax_rates)
     (λ _. FirstTaxes c.args.customer rows c.push.new.self.items (i + 1))
@@ -53,8 +53,8 @@ loop-row-preserved g c =
     ))
     c.loop-row.invariant (rw c.in-Some.is at c.in_ok-tax.ensures.read)
 
-pub returns-clause-read : goal.returns-clause-read
-returns-clause-read g c =
+pub returns : goal.returns
+returns g c =
     let rows = c.deref-row-items.result.now in
     let i = c.loop-row.row-index in
     retold g.S.Store c.args.store.now c.loop-row.store tt c.loop-row.taxes
@@ -65,22 +65,22 @@ returns-clause-read g c =
     ∙ twice abstract_customer_tax (λ (r : CustomerTax). tax_rate_with_id t r.tax) rows ∙ ap (map (λ (r : CustomerTax). tax_rate_with_id t r.tax)) p.0)
     c.loop-row.invariant
 
-pub returns-in_err-tax-clause-read : goal.returns-in_err-tax-clause-read
-returns-in_err-tax-clause-read g c =
+pub returns-in_err-tax : goal.returns-in_err-tax
+returns-in_err-tax g c =
     let old = c.args.store.now in
     let p = err_from_is_err_and c.from_residual-in_err-tax.result c.from_residual-in_err-tax.ensures.1 in
     rw p.1 (failed_after g.S.Store old c.loop-row.store c.tax_with_id.new.self _ p.0 _ _ (single_read_changes_nothing old c.loop-row.store _ _ c.loop-row.invariant) c.in_err-tax.ensures.read)
 
-pub returns-in_err-push-clause-read : goal.returns-in_err-push-clause-read
-returns-in_err-push-clause-read g c =
+pub returns-in_err-push : goal.returns-in_err-push
+returns-in_err-push g c =
     let old = c.args.store.now in
     let p = err_from_is_err_and c.from_residual-in_err-push.result c.from_residual-in_err-push.ensures.1 in
     rw p.1 (none_read g.S.Store old c.tax_with_id.new.self p.0 _
     (unchanged_after g.S.Store old c.loop-row.store c.tax_with_id.new.self _ _ (single_read_changes_nothing old c.loop-row.store _ _ c.loop-row.invariant)
     c.in_ok-tax.ensures.read))
 
-pub returns-in_default-clause-read : goal.returns-in_default-clause-read
-returns-in_default-clause-read g c =
+pub returns-in_default : goal.returns-in_default
+returns-in_default g c =
     let old = c.args.store.now in
     none_read g.S.Store old c.tax_with_id.new.self _ _
     (unchanged_after g.S.Store old c.loop-row.store c.tax_with_id.new.self _ _ (single_read_changes_nothing old c.loop-row.store _ _ c.loop-row.invariant)

@@ -7,15 +7,15 @@ use Rattle.brk_trade_books.specs.Reads.{rate_of_tax_rate_with_id}
 use Rattle.brk_store.proofs.Retelling.{retold}
 use Rattle.brk_desk_decisions.proofs.terms.stored_rate.Goals as goal
 
-pub returns-in-Some-clause-read : goal.returns-in-Some-clause-read
-returns-in-Some-clause-read g c =
+pub returns-in-Some : goal.returns-in-Some
+returns-in-Some g c =
     retold g.S.Store c.args.store.now c.tax_with_id.new.self (Some c.in-Some.tax) (Some c.in-Some.tax.rate)
     (λ o (t : Tables). option_map abstract_tax_rate o ≡ find (λ (r : TaxRate). r.id == c.args.tax) t.tax_rates) (λ rate (t : Tables). rate ≡ rate_of_tax_rate_with_id t c.args.tax)
     (λ t e. ap (option_map (λ (r : TaxRate). r.rate)) e)
     (rw c.in-Some.is at c.in_ok-tax.ensures.read)
 
-pub returns-in-None-clause-read : goal.returns-in-None-clause-read
-returns-in-None-clause-read g c =
+pub returns-in-None : goal.returns-in-None
+returns-in-None g c =
     retold g.S.Store c.args.store.now c.tax_with_id.new.self {V = Option Tax} {X = Option _} None None
     (λ o (t : Tables). option_map abstract_tax_rate o ≡ find (λ (r : TaxRate). r.id == c.args.tax) t.tax_rates) (λ rate (t : Tables). rate ≡ rate_of_tax_rate_with_id t c.args.tax)
     (λ t e. ap (option_map (λ (r : TaxRate). r.rate)) e)

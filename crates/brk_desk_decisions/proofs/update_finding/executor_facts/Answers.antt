@@ -13,8 +13,8 @@ use Rattle.brk_trade_plans.specs.declared.corrected.TextUpdate.{TextUpdate}
 use Rattle.brk_trade_plans.specs.declared.corrected.TextUpdate.TheVariants.{Executors}
 use Rattle.brk_desk_decisions.proofs.update_finding.executor_facts.Goals as goal
 
-pub returns-in-Some-clause-read : goal.returns-in-Some-clause-read
-returns-in-Some-clause-read g c =
+pub returns-in-Some : goal.returns-in-Some
+returns-in-Some g c =
     let ids = c.args.trades.now in
     reads_retold g.S.Store c.args.store.now c.read_trades_by_ids.new.store {V = Option (Vec TradeRow)} {X = Option TextUpdate} (Some c.in-Some.trades) (Some (Executors c.in-Some.trades))
     (λ found (t : Tables). MatchOption found (list_any (λ id. is_none (trade_row_with_id t id)) ids ≡ true) (λ trades. AreTradesWithIds t ids trades.items))
@@ -22,8 +22,8 @@ returns-in-Some-clause-read g c =
     (λ t e. e)
     (rw (c.in-Some.is, c.ids.ensures) at c.in_ok-trades.ensures.read)
 
-pub returns-in-None-clause-read : goal.returns-in-None-clause-read
-returns-in-None-clause-read g c =
+pub returns-in-None : goal.returns-in-None
+returns-in-None g c =
     let ids = c.args.trades.now in
     reads_retold g.S.Store c.args.store.now c.read_trades_by_ids.new.store {V = Option (Vec TradeRow)} {X = Option TextUpdate} None None
     (λ found (t : Tables). MatchOption found (list_any (λ id. is_none (trade_row_with_id t id)) ids ≡ true) (λ trades. AreTradesWithIds t ids trades.items))

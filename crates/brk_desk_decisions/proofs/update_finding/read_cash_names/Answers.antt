@@ -2,7 +2,7 @@ use Rattle.std.proofs.Common.{◌≡◌, ◌∙◌, ◌+◌, ℕ, List, Some, ap
 use Rattle.std.proofs.lemmas.List.{take_all}
 use Rattle.std.specs.Prelude.{string_bytes}
 use Rattle.brk_money.specs.Spelling.{Text}
-use Rattle.brk_money.specs.declared.fault.Fault.{Fault}
+use Rattle.brk_money.specs.declared.fault.CallFault.{CallFault}
 use Rattle.brk_model.specs.Tables.{Tables}
 use Rattle.brk_trade_rows.specs.Chosen.{first_twenty_completed_cash_trade_rows_of_symbol}
 use Rattle.brk_ref.specs.Rows.{abstract_trade_row}
@@ -38,7 +38,7 @@ loop-trade-preserved g c =
     let i = c.loop-trade.trade-index in
     let trade = c.trade-item.result in
     let name = c.in_ok-name.name in
-    read_with g.S.Store c.args.store.now c.loop-trade.store c.cash_name_of.new.store {H = Fault} tt name tt
+    read_with g.S.Store c.args.store.now c.loop-trade.store c.cash_name_of.new.store {H = CallFault} tt name tt
     (λ _. FirstPaid c.args.symbol.now span.first span.last rows c.loop-trade.paid.items i)
     (λ name (t : Tables). Some (string_bytes name) ≡ option_map (λ r. r.name) (cash_row_of_trade t trade.id))
     (λ _. FirstPaid c.args.symbol.now span.first span.last rows c.push.new.self.items (i + 1))
@@ -48,10 +48,10 @@ loop-trade-preserved g c =
           ∙ one_more cash_text_row_of_typed_row (λ r. cash_text_row_in_tables t (abstract_trade_row r)) c.loop-trade.paid.items rows i _ trade
           c.loop-trade-test.true c.trade-item.is (λ k. (trade.id, trade.kind, trade.qty, e k)) p.1,
     ))
-    c.loop-trade.invariant c.in_ok-name.ensures.read
+    c.loop-trade.invariant c.in_ok-name.ensures
 
-pub returns-clause-read : goal.returns-clause-read
-returns-clause-read g c =
+pub returns : goal.returns
+returns g c =
     let span = c.args.span in
     let rows = c.deref-trade-items.result.now in
     let i = c.loop-trade.trade-index in
@@ -62,17 +62,17 @@ returns-clause-read g c =
     ∙ twice abstract_trade_row (cash_text_row_in_tables t) rows ∙ ap (map (cash_text_row_in_tables t)) p.0)
     c.loop-trade.invariant
 
-pub returns-in_err-name-clause-read : goal.returns-in_err-name-clause-read
-returns-in_err-name-clause-read g c =
+pub returns-in_err-name : goal.returns-in_err-name
+returns-in_err-name g c =
     let old = c.args.store.now in
     let p = err_from_is_err_and c.from_residual-in_err-name.result c.from_residual-in_err-name.ensures.1 in
     rw p.1 (failed_after g.S.Store old c.loop-trade.store c.cash_name_of.new.store _ p.0 _ _
-    (single_read_changes_nothing old c.loop-trade.store _ _ c.loop-trade.invariant) c.in_err-name.ensures.read)
+    (single_read_changes_nothing old c.loop-trade.store _ _ c.loop-trade.invariant) c.in_err-name.ensures)
 
-pub returns-in_err-push-clause-read : goal.returns-in_err-push-clause-read
-returns-in_err-push-clause-read g c =
+pub returns-in_err-push : goal.returns-in_err-push
+returns-in_err-push g c =
     let old = c.args.store.now in
     let p = err_from_is_err_and c.from_residual-in_err-push.result c.from_residual-in_err-push.ensures.1 in
     rw p.1 (none_read g.S.Store old c.cash_name_of.new.store p.0 _
     (unchanged_after g.S.Store old c.loop-trade.store c.cash_name_of.new.store _ _
-    (single_read_changes_nothing old c.loop-trade.store _ _ c.loop-trade.invariant) c.in_ok-name.ensures.read))
+    (single_read_changes_nothing old c.loop-trade.store _ _ c.loop-trade.invariant) c.in_ok-name.ensures))

@@ -1,6 +1,6 @@
 use Rattle.std.proofs.Common.{◌≡◌, ◌∙◌, ◌+◌, ℕ, List, Some, ap, map, option_map, take}
 use Rattle.std.proofs.lemmas.List.{take_all}
-use Rattle.brk_money.specs.declared.fault.Fault.{Fault}
+use Rattle.brk_money.specs.declared.fault.CallFault.{CallFault}
 use Rattle.brk_model.specs.Tables.{Tables}
 use Rattle.brk_trade_rows.specs.Chosen.{first_twenty_completed_trade_rows_of_account}
 use Rattle.brk_ref.specs.Rows.{cash_type_text, abstract_trade_row}
@@ -36,7 +36,7 @@ loop-trade-preserved g c =
     let i = c.loop-trade.trade-index in
     let trade = c.trade-item.result in
     let word = c.in_ok-cash_type.cash_type in
-    read_with g.S.Store c.args.store.now c.loop-trade.store c.cash_type_of.new.store {H = Fault} tt word tt
+    read_with g.S.Store c.args.store.now c.loop-trade.store c.cash_type_of.new.store {H = CallFault} tt word tt
     (λ _. FirstSettled c.args.account span.first span.last rows c.loop-trade.settled.items i)
     (λ word (t : Tables). Some (cash_type_text word) ≡ option_map (λ s. s.cash_type) (settlement_row_of_trade t trade.id))
     (λ _. FirstSettled c.args.account span.first span.last rows c.push.new.self.items (i + 1))
@@ -46,10 +46,10 @@ loop-trade-preserved g c =
           ∙ one_more settlement_text_row_of_typed_row (λ r. settlement_text_row_in_tables t (abstract_trade_row r)) c.loop-trade.settled.items rows i _ trade
           c.loop-trade-test.true c.trade-item.is (λ k. (trade.id, trade.is_cash, e k)) p.1,
     ))
-    c.loop-trade.invariant c.in_ok-cash_type.ensures.read
+    c.loop-trade.invariant c.in_ok-cash_type.ensures
 
-pub returns-clause-read : goal.returns-clause-read
-returns-clause-read g c =
+pub returns : goal.returns
+returns g c =
     let span = c.args.span in
     let rows = c.deref-trade-items.result.now in
     let i = c.loop-trade.trade-index in
@@ -60,17 +60,17 @@ returns-clause-read g c =
     ∙ twice abstract_trade_row (settlement_text_row_in_tables t) rows ∙ ap (map (settlement_text_row_in_tables t)) p.0)
     c.loop-trade.invariant
 
-pub returns-in_err-cash_type-clause-read : goal.returns-in_err-cash_type-clause-read
-returns-in_err-cash_type-clause-read g c =
+pub returns-in_err-cash_type : goal.returns-in_err-cash_type
+returns-in_err-cash_type g c =
     let old = c.args.store.now in
     let p = err_from_is_err_and c.from_residual-in_err-cash_type.result c.from_residual-in_err-cash_type.ensures.1 in
     rw p.1 (failed_after g.S.Store old c.loop-trade.store c.cash_type_of.new.store _ p.0 _ _
-    (single_read_changes_nothing old c.loop-trade.store _ _ c.loop-trade.invariant) c.in_err-cash_type.ensures.read)
+    (single_read_changes_nothing old c.loop-trade.store _ _ c.loop-trade.invariant) c.in_err-cash_type.ensures)
 
-pub returns-in_err-push-clause-read : goal.returns-in_err-push-clause-read
-returns-in_err-push-clause-read g c =
+pub returns-in_err-push : goal.returns-in_err-push
+returns-in_err-push g c =
     let old = c.args.store.now in
     let p = err_from_is_err_and c.from_residual-in_err-push.result c.from_residual-in_err-push.ensures.1 in
     rw p.1 (none_read g.S.Store old c.cash_type_of.new.store p.0 _
     (unchanged_after g.S.Store old c.loop-trade.store c.cash_type_of.new.store _ _
-    (single_read_changes_nothing old c.loop-trade.store _ _ c.loop-trade.invariant) c.in_ok-cash_type.ensures.read))
+    (single_read_changes_nothing old c.loop-trade.store _ _ c.loop-trade.invariant) c.in_ok-cash_type.ensures))

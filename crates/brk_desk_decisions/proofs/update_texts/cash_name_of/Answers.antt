@@ -7,8 +7,8 @@ use Rattle.brk_store.proofs.Retelling.{retold}
 use Rattle.brk_trade_theorems.specs.Corrections.{cash_row_of_trade}
 use Rattle.brk_desk_decisions.proofs.update_texts.cash_name_of.Goals as goal
 
-pub returns-in-Some-clause-read : goal.returns-in-Some-clause-read
-returns-in-Some-clause-read g c =
+pub returns-in-Some : goal.returns-in-Some
+returns-in-Some g c =
     retold g.S.Store c.args.store.now c.cash_row.new.self (Some c.in-Some.cash) c.in-Some.cash.name
     (λ o (t : Tables). option_map abstract_cash_row o ≡ find (is_cash_row_of_trade c.args.trade) t.moves)
     (λ name (t : Tables). Some (string_bytes name) ≡ option_map (λ c. c.name) (cash_row_of_trade t c.args.trade))

@@ -7,8 +7,8 @@ use Rattle.brk_view_rows.specs.Worths.{worth_of_account}
 use Rattle.brk_view_rows.specs.declared.worths.AccountWorth.{AccountWorth}
 use Rattle.brk_desk_queries.proofs.accounts.read_worth.Goals as goal
 
-pub returns-clause-read : goal.returns-clause-read
-returns-clause-read g c =
+pub returns : goal.returns
+returns g c =
     let row = c.args.row.now in
     let of : ℤ → AccountWorth = λ assets. record { account = row.account.id; balance = row.balance; assets = assets } in
     retold g.S.Store c.args.store.now c.read_holdings_value.new.store c.in_ok-assets.assets (of c.in_ok-assets.assets)

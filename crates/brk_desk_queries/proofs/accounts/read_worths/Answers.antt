@@ -1,6 +1,6 @@
 use Rattle.std.proofs.Common.{◌≡◌, ◌==◌, ◌∙◌, ◌+◌, ◌++◌, ◌∷◌, [], ℕ, List, ap, filter, map, sym, take}
 use Rattle.std.proofs.lemmas.List.{take_all}
-use Rattle.brk_money.specs.declared.fault.Fault.{Fault}
+use Rattle.brk_money.specs.declared.fault.CallFault.{CallFault}
 use Rattle.brk_model.specs.Tables as tables
 use Rattle.brk_model.specs.Tables.{Tables}
 use Rattle.brk_ref.specs.Records.{abstract_account_row}
@@ -36,15 +36,15 @@ loop-row-preserved g c =
     let worth = c.in_ok-worth.worth in
     let before = c.loop-row.worths.items in
     rw c.in_ok-push.ensures.items
-    (read_with g.S.Store c.args.store.now c.loop-row.store c.read_worth.new.store {H = Fault} tt worth tt
+    (read_with g.S.Store c.args.store.now c.loop-row.store c.read_worth.new.store {H = CallFault} tt worth tt
     (λ _. FirstWorths c.args.customer rows before i)
     (λ worth (t : Tables). worth ≡ worth_of_account t (abstract_account_row row))
     (λ _. FirstWorths c.args.customer rows (before ++ worth ∷ []) (i + 1))
     (λ t p e. (p.0, list_more (λ r. worth_of_account t (abstract_account_row r)) rows i row before worth c.loop-row-test.true c.row-item.is p.1 e))
-    c.loop-row.invariant c.in_ok-worth.ensures.read)
+    c.loop-row.invariant c.in_ok-worth.ensures)
 
-pub returns-clause-read : goal.returns-clause-read
-returns-clause-read g c =
+pub returns : goal.returns
+returns g c =
     let rows = c.deref-row-items.result.now in
     let i = c.loop-row.row-index in
     retold g.S.Store c.args.store.now c.loop-row.store tt c.loop-row.worths
@@ -54,17 +54,17 @@ returns-clause-read g c =
     ∙ sym (map_map (worth_of_account t) abstract_account_row rows) ∙ ap (map (worth_of_account t)) p.0)
     c.loop-row.invariant
 
-pub returns-in_err-worth-clause-read : goal.returns-in_err-worth-clause-read
-returns-in_err-worth-clause-read g c =
+pub returns-in_err-worth : goal.returns-in_err-worth
+returns-in_err-worth g c =
     let old = c.args.store.now in
     let p = err_from_is_err_and c.from_residual-in_err-worth.result c.from_residual-in_err-worth.ensures.1 in
     rw p.1 (failed_after g.S.Store old c.loop-row.store c.read_worth.new.store _ p.0 _ _
-    (single_read_changes_nothing old c.loop-row.store _ _ c.loop-row.invariant) c.in_err-worth.ensures.read)
+    (single_read_changes_nothing old c.loop-row.store _ _ c.loop-row.invariant) c.in_err-worth.ensures)
 
-pub returns-in_err-push-clause-read : goal.returns-in_err-push-clause-read
-returns-in_err-push-clause-read g c =
+pub returns-in_err-push : goal.returns-in_err-push
+returns-in_err-push g c =
     let old = c.args.store.now in
     let p = err_from_is_err_and c.from_residual-in_err-push.result c.from_residual-in_err-push.ensures.1 in
     rw p.1 (none_read g.S.Store old c.read_worth.new.store p.0 _
     (unchanged_after g.S.Store old c.loop-row.store c.read_worth.new.store _ _
-    (single_read_changes_nothing old c.loop-row.store _ _ c.loop-row.invariant) c.in_ok-worth.ensures.read))
+    (single_read_changes_nothing old c.loop-row.store _ _ c.loop-row.invariant) c.in_ok-worth.ensures))

@@ -1,5 +1,5 @@
 use Rattle.std.proofs.Common.{◌≡◌, ◌∙◌, ◌++◌, ◌∷◌, [], List, Ok, ap, map, reverse, sym}
-use Rattle.brk_money.specs.declared.fault.Fault.{Fault}
+use Rattle.brk_money.specs.declared.fault.CallFault.{CallFault}
 use Rattle.brk_ref.specs.Rows.{abstract_trade_row}
 use Rattle.brk_ref.specs.declared.trade_row.TradeRow.{TradeRow}
 use Rattle.brk_model.specs.Base.{Base}
@@ -37,7 +37,7 @@ loop-trade-preserved g c =
     let all = c.loop-trade.found.items in
     let one = c.in_ok-one.one in
     rw c.in_ok-push.ensures.items
-    (reads_both g.S.Store c.args.store.now c.loop-trade.store c.look_up_trade.new.store {H = Fault} tt one tt
+    (reads_both g.S.Store c.args.store.now c.loop-trade.store c.look_up_trade.new.store {H = CallFault} tt one tt
     (λ _. AreAll trades before all)
     (HasAllRowsOfTrade (abstract_trade_row trade))
     (λ _. AreAll trades rest (all ++ one ∷ []))
@@ -45,10 +45,10 @@ loop-trade-preserved g c =
     c.in-Some.ensures.items (p base books sound s) (e base books sound s))
     c.loop-trade.invariant
     (one_read g.S.Store c.loop-trade.store c.look_up_trade.new.store (Ok one) (HasAllRowsOfTrade (abstract_trade_row trade))
-    c.in_ok-one.ensures.read))
+    c.in_ok-one.ensures))
 
-pub returns-clause-read : goal.returns-clause-read
-returns-clause-read g c =
+pub returns : goal.returns
+returns g c =
     let trades = c.args.trades.items in
     let rest = c.loop-trade.rest in
     let found = c.loop-trade.found.items in
@@ -60,16 +60,16 @@ returns-clause-read g c =
     ∙ sym (map_map (table_rows_of_trade t) abstract_trade_row trades))
     c.loop-trade.invariant
 
-pub returns-in_err-one-clause-read : goal.returns-in_err-one-clause-read
-returns-in_err-one-clause-read g c =
+pub returns-in_err-one : goal.returns-in_err-one
+returns-in_err-one g c =
     let old = c.args.store.now in
     let p = err_from_is_err_and c.from_residual.result c.from_residual.ensures.1 in
     rw p.1 (reads_failed g.S.Store old c.look_up_trade.new.store p.0 _
-    (unchanged_after g.S.Store old c.loop-trade.store c.look_up_trade.new.store _ _ (c.loop-trade.invariant.unchanged) c.in_err-one.ensures.read))
+    (unchanged_after g.S.Store old c.loop-trade.store c.look_up_trade.new.store _ _ (c.loop-trade.invariant.unchanged) c.in_err-one.ensures))
 
-pub returns-in_err-push-clause-read : goal.returns-in_err-push-clause-read
-returns-in_err-push-clause-read g c =
+pub returns-in_err-push : goal.returns-in_err-push
+returns-in_err-push g c =
     let old = c.args.store.now in
     let p = err_from_is_err_and c.from_residual-in_err-push.result c.from_residual-in_err-push.ensures.1 in
     rw p.1 (reads_failed g.S.Store old c.look_up_trade.new.store p.0 _
-    (unchanged_after g.S.Store old c.loop-trade.store c.look_up_trade.new.store _ _ (c.loop-trade.invariant.unchanged) c.in_ok-one.ensures.read))
+    (unchanged_after g.S.Store old c.loop-trade.store c.look_up_trade.new.store _ _ (c.loop-trade.invariant.unchanged) c.in_ok-one.ensures))

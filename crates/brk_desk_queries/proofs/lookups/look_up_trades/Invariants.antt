@@ -1,5 +1,5 @@
 use Rattle.std.proofs.Common.{◌≡◌, ◌++◌, Ok, length, map, reverse}
-use Rattle.brk_money.specs.declared.fault.Fault.{Fault}
+use Rattle.brk_money.specs.declared.fault.CallFault.{CallFault}
 use Rattle.brk_ref.specs.Rows.{abstract_trade_row}
 use Rattle.brk_model.specs.Base.{Base}
 use Rattle.brk_model.specs.Sheets.{sheets}
@@ -10,7 +10,7 @@ use Rattle.brk_view_rows.specs.Lookup.{rows_of_looked_up_trade, table_rows_of_tr
 use Rattle.brk_desk_queries.proofs.lookups.look_up_trades.Given as goal
 
 abbrev pub invariant-loop-trade : goal.invariant-loop-trade
-invariant-loop-trade g l = ReadSequencePost {V = Unit {0}} {E = Fault} g.S.Store l.fn.store l.store (Ok tt)
+invariant-loop-trade g l = ReadSequencePost {V = Unit {0}} {E = CallFault} g.S.Store l.fn.store l.store (Ok tt)
     (λ _ t. (base : Base) → BooksInvariant base → AuditInvariant base → t ≡ sheets base
     → map (λ r. table_rows_of_trade t (abstract_trade_row r)) l.rest.items ++ map rows_of_looked_up_trade (reverse l.found.items)
     ≡ map (λ r. table_rows_of_trade t (abstract_trade_row r)) l.fn.trades.items)

@@ -9,11 +9,11 @@ use Rattle.brk_desk_queries.specs.QueryResults.{AnswersQueryAsModel}
 use Rattle.brk_desk_queries.proofs.OrderViews.{submitted_shown}
 use Rattle.brk_desk_queries.proofs.orders.submitted_view.Goals as goal
 
-pub returns-clause-read : goal.returns-clause-read
-returns-clause-read g c =
+pub returns-in-Ok : goal.returns-in-Ok
+returns-in-Ok g c =
     let rows = c.in_ok-rows.rows in
-    let view = c.in_ok-view.view in
+    let view = c.in-Ok.view in
     retold g.S.Store c.args.store.now c.submitted_trades.new.self rows (Ok view)
     (λ all (t : Tables). map abstract_trade_row all.items ≡ filter (λ (r : TradeRow). is_same_trade_status r.status Submitted) t.trades) (AnswersQueryAsModel SubmittedTrades)
-    (submitted_shown rows.items _ c.in_ok-view.ensures.value.0 view c.deref.ensures.value c.in_ok-view.ensures.value.1 c.in_ok-view.ensures.view)
+    (submitted_shown rows.items _ c.in-Ok.ensures.value.0 view c.deref.ensures.value c.in-Ok.ensures.value.1 c.in-Ok.ensures.view)
     c.in_ok-rows.ensures.read

@@ -1,5 +1,5 @@
 use Rattle.std.proofs.Common.{◌≡◌, refl, sym}
-use Rattle.brk_money.specs.declared.fault.Fault.{Fault}
+use Rattle.brk_money.specs.declared.fault.CallFault.{CallFault}
 use Rattle.brk_model.specs.StatusView.{broker_name_with_id}
 use Rattle.brk_model.specs.Tables.{Tables}
 use Rattle.brk_ref.specs.Records.{abstract_account_row, abstract_customer}
@@ -11,22 +11,22 @@ use Rattle.std.proofs.lemmas.Result.{err_from_is_err_and}
 use Rattle.brk_store.specs.ReadSequences.{single_read_changes_nothing}
 use Rattle.brk_desk_queries.proofs.parties.account_status.Goals as goal
 
-pub returns-clause-read : goal.returns-clause-read
-returns-clause-read g c =
+pub returns : goal.returns
+returns g c =
     let row = c.args.row.now in
     let customer = c.in_ok-customer.customer in
     let broker = c.in_ok-broker.broker in
     let found : AccountStatus = record { last_name = customer.last_name; first_name = customer.first_name; broker = broker; trades = c.args.trades } in
-    read_with g.S.Store c.args.store.now c.require_customer.new.store c.require_name.new.store {H = Fault} customer broker found
+    read_with g.S.Store c.args.store.now c.require_customer.new.store c.require_name.new.store {H = CallFault} customer broker found
     (λ customer (t : Tables). IsCustomerWithId t row.account.customer customer)
     (λ name (t : Tables). name ≡ broker_name_with_id t row.account.broker)
     (IsAccountStatusWithTrades (abstract_account_row row) c.args.trades)
     (λ t e f. (abstract_customer customer, sym e, refl, refl, f, refl))
-    c.in_ok-customer.ensures.read c.in_ok-broker.ensures.read
+    c.in_ok-customer.ensures.read c.in_ok-broker.ensures
 
-pub returns-in_err-broker-clause-read : goal.returns-in_err-broker-clause-read
-returns-in_err-broker-clause-read g c =
+pub returns-in_err-broker : goal.returns-in_err-broker
+returns-in_err-broker g c =
     let old = c.args.store.now in
     let p = err_from_is_err_and c.from_residual-in_err-broker.result c.from_residual-in_err-broker.ensures.1 in
     rw p.1 (failed_after g.S.Store old c.require_customer.new.store c.require_name.new.store _ p.0 _ _
-    (single_read_changes_nothing old c.require_customer.new.store _ _ c.in_ok-customer.ensures.read) c.in_err-broker.ensures.read)
+    (single_read_changes_nothing old c.require_customer.new.store _ _ c.in_ok-customer.ensures.read) c.in_err-broker.ensures)

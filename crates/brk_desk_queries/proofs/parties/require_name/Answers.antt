@@ -6,8 +6,8 @@ use Rattle.brk_ref.specs.Records.{abstract_broker_row}
 use Rattle.brk_store.proofs.Retelling.{retold}
 use Rattle.brk_desk_queries.proofs.parties.require_name.Goals as goal
 
-pub returns-in-Some-clause-read : goal.returns-in-Some-clause-read
-returns-in-Some-clause-read g c =
+pub returns-in-Some : goal.returns-in-Some
+returns-in-Some g c =
     let row = c.in-Some.row in
     retold g.S.Store c.args.store.now c.broker.new.self (Some row) row.broker.name
     (λ o (t : Tables). option_map abstract_broker_row o ≡ find (λ (r : BrokerRow). r.id == c.args.id) t.brokers)

@@ -1,7 +1,7 @@
 use Rattle.std.proofs.Common.{◌≡◌, ◌==◌, ◌∙◌, ◌+◌, ◌++◌, ℕ, List, ap, filter, map, sym, take}
 use Rattle.std.specs.Prelude.{flat_map}
 use Rattle.std.proofs.lemmas.List.{take_all}
-use Rattle.brk_money.specs.declared.fault.Fault.{Fault}
+use Rattle.brk_money.specs.declared.fault.CallFault.{CallFault}
 use Rattle.brk_ref.specs.Rows.{abstract_history_row, abstract_trade_row}
 use Rattle.brk_ref.specs.declared.history_row.HistoryRow.{HistoryRow}
 use Rattle.brk_ref.specs.declared.trade_row.TradeRow.{TradeRow}
@@ -36,16 +36,16 @@ loop-trade-preserved g c =
     let trade = c.trade-item.result in
     let rows = c.in_ok-rows.rows in
     let before = c.loop-trade.history.items in
-    rw (c.in_ok-append_history_rows.ensures.added, c.deref.ensures.value)
-    (read_with g.S.Store c.args.store.now c.loop-trade.store c.history_of_trade.new.self {H = Fault} tt rows tt
+    rw (c.in_ok-append_history_rows.ensures, c.deref.ensures.value)
+    (read_with g.S.Store c.args.store.now c.loop-trade.store c.history_of_trade.new.self {H = CallFault} tt rows tt
     (λ _. FirstHistory c.args.account trades before i)
     (λ all (t : Tables). map abstract_history_row all.items ≡ filter (λ (r : tables.HistoryRow). r.trade == trade.id) t.history)
     (λ _. FirstHistory c.args.account trades (before ++ rows.items) (i + 1))
     (λ t p e. (p.0, joined_more abstract_history_row (λ r. history_rows_with_trade_id t (abstract_trade_row r).id) trades i trade before rows.items c.loop-trade-test.true c.trade-item.is p.1 e))
     c.loop-trade.invariant c.in_ok-rows.ensures.read)
 
-pub returns-clause-read : goal.returns-clause-read
-returns-clause-read g c =
+pub returns : goal.returns
+returns g c =
     let trades = c.deref-trade-items.result.now in
     let i = c.loop-trade.trade-index in
     retold g.S.Store c.args.store.now c.loop-trade.store tt (c.in_ok-trades.trades, c.loop-trade.history)
@@ -60,15 +60,15 @@ returns-clause-read g c =
     ))
     c.loop-trade.invariant
 
-pub returns-in_err-rows-clause-read : goal.returns-in_err-rows-clause-read
-returns-in_err-rows-clause-read g c =
+pub returns-in_err-rows : goal.returns-in_err-rows
+returns-in_err-rows g c =
     let old = c.args.store.now in
     let p = err_from_is_err_and c.from_residual-in_err-rows.result c.from_residual-in_err-rows.ensures.1 in
     rw p.1 (failed_after g.S.Store old c.loop-trade.store c.history_of_trade.new.self _ p.0 _ _
     (single_read_changes_nothing old c.loop-trade.store _ _ c.loop-trade.invariant) c.in_err-rows.ensures.read)
 
-pub returns-in_err-append_history_rows-clause-read : goal.returns-in_err-append_history_rows-clause-read
-returns-in_err-append_history_rows-clause-read g c =
+pub returns-in_err-append_history_rows : goal.returns-in_err-append_history_rows
+returns-in_err-append_history_rows g c =
     let old = c.args.store.now in
     let p = err_from_is_err_and c.from_residual-in_err-append_history_rows.result c.from_residual-in_err-append_history_rows.ensures.1 in
     rw p.1 (none_read g.S.Store old c.history_of_trade.new.self p.0 _

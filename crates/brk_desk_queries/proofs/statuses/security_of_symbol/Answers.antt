@@ -4,8 +4,8 @@ use Rattle.std.proofs.lemmas.Iterator.{YieldsList-from_slice}
 use Rattle.std.proofs.lemmas.Iterator.Search.{find_from_yields_List}
 use Rattle.brk_desk_queries.proofs.statuses.security_of_symbol.Goals as goal
 
-pub returns-clause-security : goal.returns-clause-security
-returns-clause-security c =
+pub returns : goal.returns
+returns c =
     let statuses = c.args.statuses.now in
     let found = find_from_yields_List (λ s. bytes_eq s.trade.symbol c.args.symbol.now) _ _ c.find.result c.find.ensures.ran (YieldsList-from_slice statuses cc) (λ x b q k. search (rules, tests)) in
     let one = c.in_ok-security.security in
@@ -16,8 +16,8 @@ returns-clause-security c =
     ap Some (λ i. record { symbol = same.0 i; name = rest.0 i; exchange = last.0 i; sector = last.1 i })
     ∙ ap (option_map (λ s. s.security)) (sym (ap (option_map (λ s. s.now)) c.in-Some.is) ∙ found)
 
-pub returns-in_default-clause-security : goal.returns-in_default-clause-security
-returns-in_default-clause-security c =
+pub returns-in_default : goal.returns-in_default
+returns-in_default c =
     let statuses = c.args.statuses.now in
     let found = find_from_yields_List (λ s. bytes_eq s.trade.symbol c.args.symbol.now) _ _ c.find.result c.find.ensures.ran (YieldsList-from_slice statuses cc) (λ x b q k. search (rules, tests)) in
     ap (option_map (λ s. s.security)) (sym (ap (option_map (λ s. s.now)) c.in_default.is) ∙ found)

@@ -8,8 +8,8 @@ use Rattle.brk_view_rows.specs.Status.{rows_of_trade_status, trade_row_with_secu
 use Rattle.brk_desk_queries.proofs.StatusViews.{carried_in}
 use Rattle.brk_desk_queries.proofs.statuses.trade_status_of.Goals as goal
 
-pub returns-in-Some-clause-read : goal.returns-in-Some-clause-read
-returns-in-Some-clause-read g c =
+pub returns-in-Some : goal.returns-in-Some
+returns-in-Some g c =
     let trade = c.args.trade in
     let security = c.in-Some.security in
     retold g.S.Store c.args.store.now c.security.new.self (Some security) (record { trade = trade; security = security })

@@ -1,6 +1,6 @@
 use Rattle.std.proofs.Common.{◌≡◌, ◌∙◌, ◌++◌, ◌∷◌, [], Some, ap, find, map, option_map, sym, take}
 use Rattle.std.specs.Prelude.{bytes_eq}
-use Rattle.brk_money.specs.declared.fault.Fault.{Fault}
+use Rattle.brk_money.specs.declared.fault.CallFault.{CallFault}
 use Rattle.brk_ref.specs.Rows.{abstract_trade_row}
 use Rattle.brk_model.specs.Joins.{trade_rows_recent_first, trade_rows_of_account}
 use Rattle.brk_model.specs.Tables.{Tables}
@@ -36,10 +36,10 @@ loop-trade-preserved-in-Continue-branch-4 g c =
     let security = c.in-Some-2.security in
     let status : TradeStatus = record { trade = trade; security = security } in
     let same : Some security ≡ option_map (λ (s : TradeStatus). s.security) (find (λ (s : TradeStatus). bytes_eq s.trade.symbol trade.symbol) all) =
-    sym c.in-Some-2.is ∙ c.in_ok-security.ensures.security
+    sym c.in-Some-2.is ∙ c.in_ok-security.ensures
     ∙ ap (λ ss. option_map (λ (s : TradeStatus). s.security) (find (λ (s : TradeStatus). bytes_eq s.trade.symbol trade.symbol) ss)) c.deref.ensures.value in
     rw c.in_ok-push.ensures.items
-    (retold g.S.Store c.args.store.now c.loop-trade.store {X = Unit {0}} {H = Fault} tt tt
+    (retold g.S.Store c.args.store.now c.loop-trade.store {X = Unit {0}} {H = CallFault} tt tt
     (λ _. AreStatusesReadSoFar account before all)
     (λ _. AreStatusesReadSoFar account rest (all ++ status ∷ []))
     (λ t p. status_more account before rest trade all status t c.in-Some.ensures.items p (carried_in trade security t (same_security trade.symbol security all t p.1 same)))
@@ -55,15 +55,15 @@ loop-trade-preserved g c =
     let all = c.loop-trade.statuses.items in
     let status = c.in_ok-status.status in
     rw c.in_ok-push-2.ensures.items
-    (read_with g.S.Store c.args.store.now c.loop-trade.store c.trade_status_of.new.store {H = Fault} tt status tt
+    (read_with g.S.Store c.args.store.now c.loop-trade.store c.trade_status_of.new.store {H = CallFault} tt status tt
     (λ _. AreStatusesReadSoFar account before all)
     (λ status (t : Tables). rows_of_trade_status status ≡ trade_row_with_security t (abstract_trade_row trade))
     (λ _. AreStatusesReadSoFar account rest (all ++ status ∷ []))
     (λ t p e. status_more account before rest trade all status t c.in-Some.ensures.items p e)
-    c.loop-trade.invariant c.in_ok-status.ensures.read)
+    c.loop-trade.invariant c.in_ok-status.ensures)
 
-pub returns-clause-read : goal.returns-clause-read
-returns-clause-read g c =
+pub returns : goal.returns
+returns g c =
     let rest = c.loop-trade.rest in
     let statuses = c.loop-trade.statuses.items in
     retold g.S.Store c.args.store.now c.loop-trade.store tt c.reverse.new.self

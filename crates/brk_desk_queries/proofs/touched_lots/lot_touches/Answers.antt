@@ -1,6 +1,6 @@
 use Rattle.std.proofs.Common.{◌≡◌, ◌==◌, ◌∙◌, ◌+◌, ◌++◌, ◌∷◌, [], ℕ, List, ap, filter, map, sym, take}
 use Rattle.std.proofs.lemmas.List.{take_all}
-use Rattle.brk_money.specs.declared.fault.Fault.{Fault}
+use Rattle.brk_money.specs.declared.fault.CallFault.{CallFault}
 use Rattle.brk_ref.specs.Rows.{abstract_lot_change_row}
 use Rattle.brk_ref.specs.declared.lot_change.LotChange.{LotChange}
 use Rattle.brk_model.specs.Tables.{HoldingHistoryRow, Tables}
@@ -36,15 +36,15 @@ loop-row-preserved g c =
     let with : ℕ → LotTouch = λ s. record { change = row; stamp = s } in
     let before = c.loop-row.touches.items in
     rw c.in_ok-push.ensures.items
-    (read_with g.S.Store c.args.store.now c.loop-row.store c.require_stamp.new.store {H = Fault} tt stamp tt
+    (read_with g.S.Store c.args.store.now c.loop-row.store c.require_stamp.new.store {H = CallFault} tt stamp tt
     (λ _. FirstChanges c.args.lot rows before i)
     (λ stamp (t : Tables). stamp ≡ last_status_stamp t row.trade)
     (λ _. FirstChanges c.args.lot rows (before ++ with stamp ∷ []) (i + 1))
     (λ t p e. (p.0, list_more (λ r. stamped_lot_change t (abstract_lot_change_row r)) rows i row before (with stamp) c.loop-row-test.true c.row-item.is p.1 (ap with e)))
-    c.loop-row.invariant c.in_ok-stamp.ensures.read)
+    c.loop-row.invariant c.in_ok-stamp.ensures)
 
-pub returns-clause-read : goal.returns-clause-read
-returns-clause-read g c =
+pub returns : goal.returns
+returns g c =
     let rows = c.deref-row-items.result.now in
     retold g.S.Store c.args.store.now c.loop-row.store tt c.loop-row.touches
     (λ _. FirstChanges c.args.lot rows c.loop-row.touches.items c.loop-row.row-index)
@@ -53,17 +53,17 @@ returns-clause-read g c =
     ∙ sym (map_map (stamped_lot_change t) abstract_lot_change_row rows) ∙ ap (map (stamped_lot_change t)) p.0)
     c.loop-row.invariant
 
-pub returns-in_err-stamp-clause-read : goal.returns-in_err-stamp-clause-read
-returns-in_err-stamp-clause-read g c =
+pub returns-in_err-stamp : goal.returns-in_err-stamp
+returns-in_err-stamp g c =
     let old = c.args.store.now in
     let p = err_from_is_err_and c.from_residual-in_err-stamp.result c.from_residual-in_err-stamp.ensures.1 in
     rw p.1 (failed_after g.S.Store old c.loop-row.store c.require_stamp.new.store _ p.0 _ _
-    (single_read_changes_nothing old c.loop-row.store _ _ c.loop-row.invariant) c.in_err-stamp.ensures.read)
+    (single_read_changes_nothing old c.loop-row.store _ _ c.loop-row.invariant) c.in_err-stamp.ensures)
 
-pub returns-in_err-push-clause-read : goal.returns-in_err-push-clause-read
-returns-in_err-push-clause-read g c =
+pub returns-in_err-push : goal.returns-in_err-push
+returns-in_err-push g c =
     let old = c.args.store.now in
     let p = err_from_is_err_and c.from_residual-in_err-push.result c.from_residual-in_err-push.ensures.1 in
     rw p.1 (none_read g.S.Store old c.require_stamp.new.store p.0 _
     (unchanged_after g.S.Store old c.loop-row.store c.require_stamp.new.store _ _
-    (single_read_changes_nothing old c.loop-row.store _ _ c.loop-row.invariant) c.in_ok-stamp.ensures.read))
+    (single_read_changes_nothing old c.loop-row.store _ _ c.loop-row.invariant) c.in_ok-stamp.ensures))

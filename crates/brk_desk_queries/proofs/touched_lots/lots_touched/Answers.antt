@@ -1,6 +1,6 @@
 use Rattle.std.proofs.Common.{◌≡◌, ◌==◌, ◌∙◌, ◌++◌, ℕ, List, filter, map, refl, sym, take}
 use Rattle.std.specs.Prelude.{flat_map}
-use Rattle.brk_money.specs.declared.fault.Fault.{Fault}
+use Rattle.brk_money.specs.declared.fault.CallFault.{CallFault}
 use Rattle.brk_ref.specs.Rows.{abstract_lot_change_row}
 use Rattle.brk_ref.specs.declared.lot_change.LotChange.{LotChange}
 use Rattle.brk_model.specs.Lists.{sort_by}
@@ -37,16 +37,16 @@ loop-change-preserved g c =
     let rest = c.pop.new.self.items in
     let change = c.in-Some.change in
     let touches = c.in_ok-touches.touches in
-    read_with g.S.Store c.args.store.now c.loop-change.store c.lot_touches.new.store {H = Fault} tt touches tt
+    read_with g.S.Store c.args.store.now c.loop-change.store c.lot_touches.new.store {H = CallFault} tt touches tt
     (λ _. AreKept c.args.trade before c.loop-change.kept.items)
     (λ touches (t : Tables). touches.items ≡ stamped_changes_of_lot t change.lot)
     (λ _. AreKept c.args.trade rest c.merge_touches.new.kept.items)
     (λ t p e. kept_more t before rest change touches.items c.loop-change.kept.items c.merge_touches.new.kept.items _
     c.in-Some.ensures.items e c.in_ok-merge_touches.ensures.merged p)
-    c.loop-change.invariant c.in_ok-touches.ensures.read
+    c.loop-change.invariant c.in_ok-touches.ensures
 
-pub returns-clause-read : goal.returns-clause-read
-returns-clause-read g c =
+pub returns : goal.returns
+returns g c =
     let trade = c.args.trade in
     let rest = c.loop-change.rest in
     let kept = c.loop-change.kept in
@@ -57,17 +57,17 @@ returns-clause-read g c =
     (λ t p. (refl, all_done t rest.items kept.items _ (sym rest.ok.0 ∙ c.in_default.ensures.cases.0) p))
     c.loop-change.invariant
 
-pub returns-in_err-touches-clause-read : goal.returns-in_err-touches-clause-read
-returns-in_err-touches-clause-read g c =
+pub returns-in_err-touches : goal.returns-in_err-touches
+returns-in_err-touches g c =
     let old = c.args.store.now in
     let p = err_from_is_err_and c.from_residual-in_err-touches.result c.from_residual-in_err-touches.ensures.1 in
     rw p.1 (failed_after g.S.Store old c.loop-change.store c.lot_touches.new.store _ p.0 _ _
-    (single_read_changes_nothing old c.loop-change.store _ _ c.loop-change.invariant) c.in_err-touches.ensures.read)
+    (single_read_changes_nothing old c.loop-change.store _ _ c.loop-change.invariant) c.in_err-touches.ensures)
 
-pub returns-in_err-merge_touches-clause-read : goal.returns-in_err-merge_touches-clause-read
-returns-in_err-merge_touches-clause-read g c =
+pub returns-in_err-merge_touches : goal.returns-in_err-merge_touches
+returns-in_err-merge_touches g c =
     let old = c.args.store.now in
     let p = err_from_is_err_and c.from_residual-in_err-merge_touches.result c.from_residual-in_err-merge_touches.ensures.1 in
     rw p.1 (none_read g.S.Store old c.lot_touches.new.store p.0 _
     (unchanged_after g.S.Store old c.loop-change.store c.lot_touches.new.store _ _
-    (single_read_changes_nothing old c.loop-change.store _ _ c.loop-change.invariant) c.in_ok-touches.ensures.read))
+    (single_read_changes_nothing old c.loop-change.store _ _ c.loop-change.invariant) c.in_ok-touches.ensures))

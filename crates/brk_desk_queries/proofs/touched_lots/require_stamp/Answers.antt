@@ -6,8 +6,8 @@ use Rattle.brk_store.proofs.Retelling.{retold}
 use Rattle.brk_desk_queries.specs.Touched.{last_status_stamp}
 use Rattle.brk_desk_queries.proofs.touched_lots.require_stamp.Goals as goal
 
-pub returns-in-Some-clause-read : goal.returns-in-Some-clause-read
-returns-in-Some-clause-read g c =
+pub returns-in-Some : goal.returns-in-Some
+returns-in-Some g c =
     retold g.S.Store c.args.store.now c.trade.new.self (Some c.in-Some.row) c.in-Some.row.stamp
     (λ o (t : Tables). option_map abstract_trade_row o ≡ find (λ (r : TradeRow). r.id == c.args.trade) t.trades)
     (λ stamp (t : Tables). stamp ≡ last_status_stamp t c.args.trade)

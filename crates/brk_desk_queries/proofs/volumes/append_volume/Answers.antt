@@ -11,8 +11,8 @@ use Rattle.brk_desk_queries.specs.Volumes.{is_sector_request_of_broker, volumes_
 use Rattle.brk_desk_queries.proofs.VolumeViews.{none_to_trade, some_left, some_to_trade}
 use Rattle.brk_desk_queries.proofs.volumes.append_volume.Goals as goal
 
-pub returns-then-is_empty-clause-read : goal.returns-then-is_empty-clause-read
-returns-then-is_empty-clause-read g c =
+pub returns-then-is_empty : goal.returns-then-is_empty
+returns-then-is_empty g c =
     let sector = c.args.sector.now in
     let b : BrokerRow = abstract_broker_row c.args.row.now in
     let found = c.args.found.now.items in
@@ -23,10 +23,10 @@ returns-then-is_empty-clause-read g c =
     (λ rows (t : Tables). map abstract_request_row rows.items ≡ filter (is_sector_request_of_broker t sector b.id) (map abstract_request_row all))
     (λ _ (t : Tables). map abstract_request_row all ≡ t.requests → found ≡ found ++ volumes_of_brokers_in_sector t sector (b ∷ []))
     (λ t e whole. sym (append-nil found) ∙ ap (λ vs. found ++ vs) (none_to_trade t sector b mine.items (e ∙ ap (filter (is_sector_request_of_broker t sector b.id)) whole) none))
-    c.in_ok-mine.ensures.read
+    c.in_ok-mine.ensures
 
-pub returns-clause-read : goal.returns-clause-read
-returns-clause-read g c =
+pub returns : goal.returns
+returns g c =
     let sector = c.args.sector.now in
     let b : BrokerRow = abstract_broker_row c.args.row.now in
     let found = c.args.found.now.items in
@@ -42,4 +42,4 @@ returns-clause-read g c =
     (λ t e whole. c.in_ok-push.ensures.items
     ∙ ap (λ vs. found ++ vs)
     (some_to_trade t sector b mine.items v (e ∙ ap (filter (is_sector_request_of_broker t sector b.id)) whole) some refl c.in_ok-name.ensures.cases worth))
-    c.in_ok-mine.ensures.read
+    c.in_ok-mine.ensures

@@ -2,7 +2,7 @@ use Rattle.std.proofs.Common.{◌≡◌, ◌∙◌, ◌+◌, ◌++◌, ◌∷◌
 use Rattle.std.proofs.lemmas.List.{append-nil, take_all}
 use Rattle.std.specs.Prelude.{bytes_eq}
 use Rattle.brk_money.specs.Spelling.{Text}
-use Rattle.brk_money.specs.declared.fault.Fault.{Fault}
+use Rattle.brk_money.specs.declared.fault.CallFault.{CallFault}
 use Rattle.brk_ref.specs.Rows.{abstract_request_row}
 use Rattle.brk_ref.specs.declared.request_row.RequestRow.{RequestRow}
 use Rattle.brk_model.specs.Tables as tables
@@ -40,15 +40,15 @@ loop-row-preserved g c =
     let before = c.args.found.now.items in
     let old = c.loop-row.found.items in
     let new = c.append_volume.new.found.items in
-    read_with_reads g.S.Store c.args.store.now c.loop-row.store c.append_volume.new.store {H = Fault} tt tt tt
+    read_with_reads g.S.Store c.args.store.now c.loop-row.store c.append_volume.new.store {H = CallFault} tt tt tt
     (λ _. FirstVolumes sector c.args.name.now c.args.requests.now rows before old i)
     (λ _ (t : Tables). map abstract_request_row c.args.requests.now ≡ t.requests → new ≡ old ++ volumes_of_brokers_in_sector t sector (abstract_broker_row row ∷ []))
     (λ _. FirstVolumes sector c.args.name.now c.args.requests.now rows before new (i + 1))
     (λ t p e. (p.0, λ whole. volume_more t sector abstract_broker_row rows i row before old new c.loop-row-test.true c.row-item.is (p.1 whole) (e whole)))
-    c.loop-row.invariant c.in_ok-append_volume.ensures.read
+    c.loop-row.invariant c.in_ok-append_volume.ensures
 
-pub returns-clause-read : goal.returns-clause-read
-returns-clause-read g c =
+pub returns : goal.returns
+returns g c =
     let sector = c.args.sector.now in
     let rows = c.deref-row-items.result.now in
     let before = c.args.found.now.items in

@@ -8,8 +8,8 @@ use Rattle.brk_store.proofs.Retelling.{retold}
 use Rattle.brk_desk_queries.specs.Volumes.{is_symbol_in_sector}
 use Rattle.brk_desk_queries.proofs.volumes.is_in_sector.Goals as goal
 
-pub returns-in-Some-clause-read : goal.returns-in-Some-clause-read
-returns-in-Some-clause-read g c =
+pub returns-in-Some : goal.returns-in-Some
+returns-in-Some g c =
     let security = c.in-Some.security in
     let sector = c.args.sector.now in
     let same : c.eq.result ≡ bytes_eq security.sector sector = first_of (cc, search rules) in
@@ -19,8 +19,8 @@ returns-in-Some-clause-read g c =
     (λ t e. same ∙ ap (λ o. option_map_or (λ (s : SecurityRow). bytes_eq s.sector sector) o false) e)
     (rw c.in-Some.is at c.in_ok-security.ensures.read)
 
-pub returns-in-None-clause-read : goal.returns-in-None-clause-read
-returns-in-None-clause-read g c =
+pub returns-in-None : goal.returns-in-None
+returns-in-None g c =
     let sector = c.args.sector.now in
     retold g.S.Store c.args.store.now c.security.new.self {V = Option Security} None false
     (λ o (t : Tables). option_map abstract_security_row o ≡ find (λ (r : SecurityRow). bytes_eq r.symbol c.args.symbol.now) t.securities)

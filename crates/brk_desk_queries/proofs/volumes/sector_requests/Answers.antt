@@ -1,7 +1,7 @@
 use Rattle.std.proofs.Common.{◌≡◌, ◌∙◌, ◌+◌, ℕ, List, ap, filter, map, take}
 use Rattle.std.proofs.lemmas.List.{take_all}
 use Rattle.brk_money.specs.Spelling.{Text}
-use Rattle.brk_money.specs.declared.fault.Fault.{Fault}
+use Rattle.brk_money.specs.declared.fault.CallFault.{CallFault}
 use Rattle.brk_ref.specs.Rows.{abstract_request_row}
 use Rattle.brk_ref.specs.declared.request_row.RequestRow.{RequestRow}
 use Rattle.brk_model.specs.Tables.{Tables}
@@ -28,15 +28,15 @@ loop-row-preserved g c =
     let row = c.row-item.result in
     let old = c.loop-row.found.items in
     let new = c.append_request.new.found.items in
-    reads_both g.S.Store c.args.store.now c.loop-row.store c.append_request.new.store {H = Fault} tt tt tt
+    reads_both g.S.Store c.args.store.now c.loop-row.store c.append_request.new.store {H = CallFault} tt tt tt
     (λ _. FirstRequests sector broker rows old i)
     (λ _ (t : Tables). new ≡ requests_with_row_if_of_broker_in_sector t sector broker row old)
     (λ _. FirstRequests sector broker rows new (i + 1))
     (λ t p e. request_more t sector broker rows i row old new c.loop-row-test.true c.row-item.is p e)
-    c.loop-row.invariant c.in_ok-append_request.ensures.read
+    c.loop-row.invariant c.in_ok-append_request.ensures
 
-pub returns-clause-read : goal.returns-clause-read
-returns-clause-read g c =
+pub returns : goal.returns
+returns g c =
     let sector = c.args.sector.now in
     let broker = c.args.broker in
     let rows = c.args.requests.now in

@@ -9,15 +9,15 @@ use Rattle.brk_desk_queries.specs.Volumes.{brokers_of_name_in_sector}
 use Rattle.brk_desk_queries.proofs.VolumeViews.{volume_seen}
 use Rattle.brk_desk_queries.proofs.volumes.volume_view.Goals as goal
 
-pub returns-clause-read : goal.returns-clause-read
-returns-clause-read g c =
+pub returns-in-Ok : goal.returns-in-Ok
+returns-in-Ok g c =
     let sector = c.args.sector.now in
     let names = c.args.names.now in
     let found = c.in_ok-found.found in
-    let view = c.in_ok-view.view in
+    let view = c.in-Ok.view in
     retold g.S.Store c.args.store.now c.named_volumes.new.store found (Ok view)
     (λ found (t : Tables). found.items ≡ map (volume.volume_of_broker_in_sector t sector) (flat_map (brokers_of_name_in_sector t sector) names))
     (AnswersQueryAsModel (VolumeOf sector names))
-    (λ t e. volume_seen sector names found.items c.in_ok-view.ensures.value.0 view (rw c.names-names.ensures.names at c.names-names.ensures.distinct)
-    c.in_ok-view.ensures.value.1 c.in_ok-view.ensures.view t e)
-    (rw c.names-names.ensures.names at c.in_ok-found.ensures.read)
+    (λ t e. volume_seen sector names found.items c.in-Ok.ensures.value.0 view (rw c.names-names.ensures.names at c.names-names.ensures.distinct)
+    c.in-Ok.ensures.value.1 c.in-Ok.ensures.view t e)
+    (rw c.names-names.ensures.names at c.in_ok-found.ensures)

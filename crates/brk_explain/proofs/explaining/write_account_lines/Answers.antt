@@ -3,13 +3,12 @@ use Rattle.brk_model.specs.Statement.{holding_rows_of_account}
 use Rattle.brk_ref.specs.Records.{abstract_account_row}
 use Rattle.brk_model_explain.specs.AccountLines.{holding_and_total_lines, account_header_lines, balance_and_lot_header_lines, account_cash_rows_by_stamp}
 use Rattle.brk_explain_rows.specs.Details.{abstract_priced_holding}
-use Rattle.brk_report.specs.StatementOutput.{IsLinesFaultOtherThanDamage}
-use Rattle.brk_report.proofs.Handing.{behind, breaks_as, on_err, wants}
+use Rattle.brk_report.proofs.Handing.{behind, breaks_as}
 use Rattle.brk_report.proofs.Keeping.{clean_then}
 use Rattle.brk_report_lines.specs.Written.{WritesLines}
 use Rattle.brk_report_lines.proofs.Composed.{breaks_before, breaks_behind}
 use Rattle.brk_explain.specs.ExplanationParts.{account_cash_lines, account_lot_lines}
-use Rattle.brk_explain.proofs.FirstLines.{breaks_off_before, first_before, text_fault, text_written}
+use Rattle.brk_explain.proofs.FirstLines.{breaks_off_before, first_before, text_written}
 use Rattle.brk_explain.proofs.Explained.{balance_first, bottom_first, top_first}
 use Rattle.brk_explain.proofs.explaining.write_account_lines.Goals as goal
 
@@ -20,7 +19,7 @@ returns-in_err-write_lines-clause-written g c = λ clean t holds.
     (length (holding_rows_of_account t c.args.account)) in
     let wrote = text_written {R = Unit {0}} (account_header_lines a) c.header_text.result (g.W.Write.contents c.args.writer.now)
     (g.W.Write.contents c.write_lines.new.writer) (Err c.in_err-write_lines.field-0.0) (top_first a) c.in_err-write_lines.ensures.written
-    c.header_text.ensures.text (wants _ c.header_text.ensures.fault) in
+    c.header_text.ensures in
     breaks_as _ _ _ _ _ c.from_residual.ensures.1
     (breaks_before (account_header_lines a) (account_cash_lines t c.args.account a.opening ++ (balance_and_lot_header_lines a ++ (account_lot_lines t c.args.account ++ bottom))) _ _ _ wrote)
 
@@ -31,7 +30,7 @@ returns-in_err-cash-clause-written g c = λ clean t holds.
     (length (holding_rows_of_account t c.args.account)) in
     let top = text_written {R = Unit {0}} (account_header_lines a) c.header_text.result (g.W.Write.contents c.args.writer.now)
     (g.W.Write.contents c.write_lines.new.writer) (Ok c.in_ok-write_lines.field-0) (top_first a) c.in_ok-write_lines.ensures.written
-    c.header_text.ensures.text (wants _ c.header_text.ensures.fault) in
+    c.header_text.ensures in
     let cash = account_cash_lines t c.args.account a.opening in
     let rest = balance_and_lot_header_lines a ++ (account_lot_lines t c.args.account ++ bottom) in
     breaks_as _ _ _ _ _ c.from_residual-in_err-cash.ensures.1
@@ -45,10 +44,10 @@ returns-in_err-write_lines-2-clause-written g c = λ clean t holds.
     (length (holding_rows_of_account t c.args.account)) in
     let top = text_written {R = Unit {0}} (account_header_lines a) c.header_text.result (g.W.Write.contents c.args.writer.now)
     (g.W.Write.contents c.write_lines.new.writer) (Ok c.in_ok-write_lines.field-0) (top_first a) c.in_ok-write_lines.ensures.written
-    c.header_text.ensures.text (wants _ c.header_text.ensures.fault) in
+    c.header_text.ensures in
     let balance = text_written {R = Unit {0}} (balance_and_lot_header_lines a) c.lots_head_text.result (g.W.Write.contents c.write_postings.new.writer)
     (g.W.Write.contents c.write_lines-2.new.writer) (Err c.in_err-write_lines-2.field-0.0) (balance_first a) c.in_err-write_lines-2.ensures.written
-    c.lots_head_text.ensures.text (wants _ c.lots_head_text.ensures.fault) in
+    c.lots_head_text.ensures in
     let cash = account_cash_lines t c.args.account a.opening in
     let rest = account_lot_lines t c.args.account ++ bottom in
     breaks_as _ _ _ _ _ c.from_residual-in_err-write_lines-2.ensures.1
@@ -64,10 +63,10 @@ returns-in_err-lots-clause-written g c = λ clean t holds.
     let still = c.write_postings.ensures.keeps.same_rows t holds in
     let top = text_written {R = Unit {0}} (account_header_lines a) c.header_text.result (g.W.Write.contents c.args.writer.now)
     (g.W.Write.contents c.write_lines.new.writer) (Ok c.in_ok-write_lines.field-0) (top_first a) c.in_ok-write_lines.ensures.written
-    c.header_text.ensures.text (wants _ c.header_text.ensures.fault) in
+    c.header_text.ensures in
     let balance = text_written {R = Unit {0}} (balance_and_lot_header_lines a) c.lots_head_text.result (g.W.Write.contents c.write_postings.new.writer)
     (g.W.Write.contents c.write_lines-2.new.writer) (Ok c.in_ok-write_lines-2.field-0) (balance_first a) c.in_ok-write_lines-2.ensures.written
-    c.lots_head_text.ensures.text (wants _ c.lots_head_text.ensures.fault) in
+    c.lots_head_text.ensures in
     let cash = account_cash_lines t c.args.account a.opening in
     let lots = account_lot_lines t c.args.account in
     breaks_as _ _ _ _ _ c.from_residual-in_err-lots.ensures.1
@@ -87,17 +86,16 @@ returns-clause-written g c = λ clean t holds.
     let still = c.write_postings.ensures.keeps.same_rows t holds in
     let top = text_written {R = Unit {0}} (account_header_lines a) c.header_text.result (g.W.Write.contents c.args.writer.now)
     (g.W.Write.contents c.write_lines.new.writer) (Ok c.in_ok-write_lines.field-0) (top_first a) c.in_ok-write_lines.ensures.written
-    c.header_text.ensures.text (wants _ c.header_text.ensures.fault) in
+    c.header_text.ensures in
     let balance = text_written {R = Unit {0}} (balance_and_lot_header_lines a) c.lots_head_text.result (g.W.Write.contents c.write_postings.new.writer)
     (g.W.Write.contents c.write_lines-2.new.writer) (Ok c.in_ok-write_lines-2.field-0) (balance_first a) c.in_ok-write_lines-2.ensures.written
-    c.lots_head_text.ensures.text (wants _ c.lots_head_text.ensures.fault) in
+    c.lots_head_text.ensures in
     let posted = c.in_ok-cash.ensures.written mid t holds in
     let kept = c.in_ok-lots.ensures.written clean t still in
     let shown = map abstract_priced_holding c.deref.result.now in
     let written = text_written (holding_and_total_lines a shown c.in_ok-cash.cash c.in_ok-lots.lots) c.end_text.result
     (g.W.Write.contents c.write_open_lots.new.writer) (g.W.Write.contents c.write_lines-3.new.writer) c.write_lines-3.result
-    (bottom_first a shown c.in_ok-cash.cash c.in_ok-lots.lots) c.write_lines-3.ensures.written c.end_text.ensures.text
-    c.end_text.ensures.fault in
+    (bottom_first a shown c.in_ok-cash.cash c.in_ok-lots.lots) c.write_lines-3.ensures.written c.end_text.ensures in
     let end = subst (λ all. WritesLines (holding_and_total_lines a (map abstract_priced_holding all) c.in_ok-cash.cash c.in_ok-lots.lots)
     (g.W.Write.contents c.write_open_lots.new.writer) (g.W.Write.contents c.write_lines-3.new.writer) c.write_lines-3.result) c.deref.ensures.value
     written in
@@ -111,34 +109,3 @@ returns-clause-written g c = λ clean t holds.
     (g.W.Write.contents c.write_open_lots.new.writer) (g.W.Write.contents c.write_lines-3.new.writer) c.write_lines-3.result) posted.1
     (subst (λ (n : ℕ). WritesLines (holding_and_total_lines a held c.in_ok-cash.cash n) (g.W.Write.contents c.write_open_lots.new.writer)
     (g.W.Write.contents c.write_lines-3.new.writer) c.write_lines-3.result) kept.1 end)))))
-
-pub returns-in_err-write_lines-clause-fault : goal.returns-in_err-write_lines-clause-fault
-returns-in_err-write_lines-clause-fault g c =
-    let a = abstract_account_row c.args.details.now.account in
-    on_err IsLinesFaultOtherThanDamage _ _ c.from_residual.ensures.1
-    (text_fault {R = Unit {0}} (account_header_lines a) c.header_text.result (g.W.Write.contents c.args.writer.now)
-    (g.W.Write.contents c.write_lines.new.writer) (Err c.in_err-write_lines.field-0.0) (top_first a) c.in_err-write_lines.ensures.written
-    c.header_text.ensures.text (wants _ c.header_text.ensures.fault))
-
-pub returns-in_err-cash-clause-fault : goal.returns-in_err-cash-clause-fault
-returns-in_err-cash-clause-fault g c = on_err IsLinesFaultOtherThanDamage _ _ c.from_residual-in_err-cash.ensures.1 c.in_err-cash.ensures.fault
-
-pub returns-in_err-write_lines-2-clause-fault : goal.returns-in_err-write_lines-2-clause-fault
-returns-in_err-write_lines-2-clause-fault g c =
-    let a = abstract_account_row c.args.details.now.account in
-    on_err IsLinesFaultOtherThanDamage _ _ c.from_residual-in_err-write_lines-2.ensures.1
-    (text_fault {R = Unit {0}} (balance_and_lot_header_lines a) c.lots_head_text.result (g.W.Write.contents c.write_postings.new.writer)
-    (g.W.Write.contents c.write_lines-2.new.writer) (Err c.in_err-write_lines-2.field-0.0) (balance_first a) c.in_err-write_lines-2.ensures.written
-    c.lots_head_text.ensures.text (wants _ c.lots_head_text.ensures.fault))
-
-pub returns-in_err-lots-clause-fault : goal.returns-in_err-lots-clause-fault
-returns-in_err-lots-clause-fault g c = on_err IsLinesFaultOtherThanDamage _ _ c.from_residual-in_err-lots.ensures.1 c.in_err-lots.ensures.fault
-
-pub returns-clause-fault : goal.returns-clause-fault
-returns-clause-fault g c =
-    let a = abstract_account_row c.args.details.now.account in
-    let shown = map abstract_priced_holding c.deref.result.now in
-    text_fault (holding_and_total_lines a shown c.in_ok-cash.cash c.in_ok-lots.lots) c.end_text.result
-    (g.W.Write.contents c.write_open_lots.new.writer) (g.W.Write.contents c.write_lines-3.new.writer) c.write_lines-3.result
-    (bottom_first a shown c.in_ok-cash.cash c.in_ok-lots.lots) c.write_lines-3.ensures.written c.end_text.ensures.text
-    c.end_text.ensures.fault

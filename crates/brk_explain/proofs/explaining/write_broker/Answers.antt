@@ -11,27 +11,27 @@ use Rattle.brk_explain.proofs.explaining.write_broker.Goals as goal
 pub returns-in-Ok-None : goal.returns-in-Ok-None
 returns-in-Ok-None g c = record {
   told = record {
-    written = λ clean t holds. no_broker t c.args.broker ((rw (c.in-Ok-None.is, c.in-Ok-None.field-0-is) at (c.broker_details.ensures.read.answered clean)) t holds);
+    written = λ clean t holds. no_broker t c.args.broker ((rw (c.in-Ok-None.is, c.in-Ok-None.field-0-is) at (c.broker_details.ensures.answered clean)) t holds);
     fault = tt;
-    keeps = keeps_read g.S.Store _ _ c.broker_details.result (AreDetailsOfBroker c.args.broker) c.broker_details.ensures.read;
+    keeps = keeps_read g.S.Store _ _ c.broker_details.result (AreDetailsOfBroker c.args.broker) c.broker_details.ensures;
     unwritten = λ refusal is. refl;
   };
 }
 
 pub returns-in_err-write_broker_lines : goal.returns-in_err-write_broker_lines
 returns-in_err-write_broker_lines g c =
-    let first = keeps_read g.S.Store _ _ c.broker_details.result (AreDetailsOfBroker c.args.broker) c.broker_details.ensures.read in
+    let first = keeps_read g.S.Store _ _ c.broker_details.result (AreDetailsOfBroker c.args.broker) c.broker_details.ensures in
     let fails : FailsAsLines c.from_residual.result c.in_err-write_broker_lines.field-0.0 = c.from_residual.ensures.1 in
     record {
       told = record {
         written = λ clean t holds.
             let mid = clean_then g.S.Store c.broker_details.new.self c.write_broker_lines.new.desk c.in_err-write_broker_lines.ensures.keeps clean in
-            let are_details = (rw (c.in-Ok-Some.is, c.in-Ok-Some.field-0-is) at (c.broker_details.ensures.read.answered mid)) t holds in
+            let are_details = (rw (c.in-Ok-Some.is, c.in-Ok-Some.field-0-is) at (c.broker_details.ensures.answered mid)) t holds in
             reported (WritesLinesOrRefuses (explanation t (BrokerOf c.args.broker)) _ _) _ _ fails
             (tells_fault (explanation t (BrokerOf c.args.broker)) (all_broker_lines t c.args.broker c.in-Ok-Some.details)
             (broker_told t c.args.broker c.in-Ok-Some.details are_details) _ _ _
             (c.in_err-write_broker_lines.ensures.written clean t (first.same_rows t holds)));
-        fault = reported_fault _ _ fails c.in_err-write_broker_lines.ensures.fault;
+        fault = reported_fault _ _ fails;
         keeps = keeps_then g.S.Store c.args.desk.now c.broker_details.new.self c.write_broker_lines.new.desk first c.in_err-write_broker_lines.ensures.keeps;
         unwritten = λ refusal is. absurd (no_refusal _ _ refusal fails is);
       };
@@ -39,12 +39,12 @@ returns-in_err-write_broker_lines g c =
 
 pub returns : goal.returns
 returns g c =
-    let first = keeps_read g.S.Store _ _ c.broker_details.result (AreDetailsOfBroker c.args.broker) c.broker_details.ensures.read in
+    let first = keeps_read g.S.Store _ _ c.broker_details.result (AreDetailsOfBroker c.args.broker) c.broker_details.ensures in
     record {
       told = record {
         written = λ clean t holds.
             let mid = clean_then g.S.Store c.broker_details.new.self c.write_broker_lines.new.desk c.in_ok-write_broker_lines.ensures.keeps clean in
-            let are_details = (rw (c.in-Ok-Some.is, c.in-Ok-Some.field-0-is) at (c.broker_details.ensures.read.answered mid)) t holds in
+            let are_details = (rw (c.in-Ok-Some.is, c.in-Ok-Some.field-0-is) at (c.broker_details.ensures.answered mid)) t holds in
             tells_all (explanation t (BrokerOf c.args.broker)) (all_broker_lines t c.args.broker c.in-Ok-Some.details)
             (broker_told t c.args.broker c.in-Ok-Some.details are_details) _ _
             (c.in_ok-write_broker_lines.ensures.written clean t (first.same_rows t holds));

@@ -4,7 +4,6 @@ use Rattle.brk_model_explain.specs.TradeLines.{trade_explanation_lines}
 use Rattle.brk_explain_rows.specs.Details.{AreDetailsOfTrade, abstract_trade_details}
 use Rattle.brk_report.proofs.Keeping.{keeps_read}
 use Rattle.brk_report.proofs.Reported.{FailsAsLines, no_refusal, reported, reported_fault}
-use Rattle.brk_report.proofs.Section.{in_broken}
 use Rattle.brk_explain.specs.LinesOutput.{WritesLinesOrRefuses}
 use Rattle.brk_explain.proofs.FirstLines.{text_written}
 use Rattle.brk_explain.proofs.Explained.{no_trade, tells_all, tells_fault, trade_first, trade_told}
@@ -13,9 +12,9 @@ use Rattle.brk_explain.proofs.explaining.write_trade.Goals as goal
 pub returns-in-Ok-None : goal.returns-in-Ok-None
 returns-in-Ok-None g c = record {
   told = record {
-    written = λ clean t holds. no_trade t c.args.trade ((rw (c.in-Ok-None.is, c.in-Ok-None.field-0-is) at (c.trade_details.ensures.read.answered clean)) t holds);
+    written = λ clean t holds. no_trade t c.args.trade ((rw (c.in-Ok-None.is, c.in-Ok-None.field-0-is) at (c.trade_details.ensures.answered clean)) t holds);
     fault = tt;
-    keeps = keeps_read g.S.Store _ _ c.trade_details.result (AreDetailsOfTrade c.args.trade) c.trade_details.ensures.read;
+    keeps = keeps_read g.S.Store _ _ c.trade_details.result (AreDetailsOfTrade c.args.trade) c.trade_details.ensures;
     unwritten = λ refusal is. refl;
   };
 }
@@ -26,16 +25,16 @@ returns-in_err-write_lines g c =
     let lines = trade_explanation_lines (abstract_trade_details details) in
     let wrote = text_written {R = Unit {0}} lines c.explained_trade.result _ (g.W.Write.contents c.write_lines.new.writer)
     (Err c.in_err-write_lines.field-0.0) (trade_first (abstract_trade_details details)) c.in_err-write_lines.ensures.written
-    c.explained_trade.ensures.text c.explained_trade.ensures.fault in
+    c.explained_trade.ensures in
     let fails : FailsAsLines c.from_residual.result c.in_err-write_lines.field-0.0 = c.from_residual.ensures.1 in
     record {
       told = record {
         written = λ clean t holds.
-            let are_details = (rw (c.in-Ok-Some.is, c.in-Ok-Some.field-0-is) at (c.trade_details.ensures.read.answered clean)) t holds in
+            let are_details = (rw (c.in-Ok-Some.is, c.in-Ok-Some.field-0-is) at (c.trade_details.ensures.answered clean)) t holds in
             reported (WritesLinesOrRefuses (explanation t (TradeOf c.args.trade)) _ _) _ _ fails
             (tells_fault (explanation t (TradeOf c.args.trade)) lines (trade_told t c.args.trade details are_details) _ _ _ wrote);
-        fault = reported_fault _ _ fails (in_broken _ _ _ _ wrote);
-        keeps = keeps_read g.S.Store _ _ c.trade_details.result (AreDetailsOfTrade c.args.trade) c.trade_details.ensures.read;
+        fault = reported_fault _ _ fails;
+        keeps = keeps_read g.S.Store _ _ c.trade_details.result (AreDetailsOfTrade c.args.trade) c.trade_details.ensures;
         unwritten = λ refusal is. absurd (no_refusal _ _ refusal fails is);
       };
     }
@@ -46,14 +45,14 @@ returns g c =
     let lines = trade_explanation_lines (abstract_trade_details details) in
     let wrote = text_written {R = Unit {0}} lines c.explained_trade.result _ (g.W.Write.contents c.write_lines.new.writer)
     (Ok c.in_ok-write_lines.field-0) (trade_first (abstract_trade_details details)) c.in_ok-write_lines.ensures.written
-    c.explained_trade.ensures.text c.explained_trade.ensures.fault in
+    c.explained_trade.ensures in
     record {
       told = record {
         written = λ clean t holds.
-            let are_details = (rw (c.in-Ok-Some.is, c.in-Ok-Some.field-0-is) at (c.trade_details.ensures.read.answered clean)) t holds in
+            let are_details = (rw (c.in-Ok-Some.is, c.in-Ok-Some.field-0-is) at (c.trade_details.ensures.answered clean)) t holds in
             tells_all (explanation t (TradeOf c.args.trade)) lines (trade_told t c.args.trade details are_details) _ _ wrote;
         fault = tt;
-        keeps = keeps_read g.S.Store _ _ c.trade_details.result (AreDetailsOfTrade c.args.trade) c.trade_details.ensures.read;
+        keeps = keeps_read g.S.Store _ _ c.trade_details.result (AreDetailsOfTrade c.args.trade) c.trade_details.ensures;
         unwritten = λ refusal is. absurd (let same = is in cc);
       };
     }

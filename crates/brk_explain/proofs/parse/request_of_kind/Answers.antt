@@ -3,33 +3,33 @@ use Rattle.brk_model_explain.specs.Explain.{read_explain_request}
 use Rattle.brk_explain.proofs.Words.{other_word, same_word}
 use Rattle.brk_explain.proofs.parse.request_of_kind.Goals as goal
 
-pub returns-then-eq-clause-read : goal.returns-then-eq-clause-read
+pub returns-then-eq : goal.returns-then-eq
 unfolding read_explain_request
-returns-then-eq-clause-read c =
+returns-then-eq c =
     rw (same_word c.args.form.now c.as_slice.result.now (codes "trade") c.eq.result c.eq.ensures c.as_slice.ensures c.if-eq.true)
     c.trade_asked.ensures
 
-pub returns-then-eq-2-clause-read : goal.returns-then-eq-2-clause-read
+pub returns-then-eq-2 : goal.returns-then-eq-2
 unfolding read_explain_request
-returns-then-eq-2-clause-read c =
+returns-then-eq-2 c =
     rw (same_word c.args.form.now c.as_slice-2.result.now (codes "account") c.eq-2.result c.eq-2.ensures c.as_slice-2.ensures c.if-eq-2.true)
     c.account_asked.ensures
 
-pub returns-then-eq-3-clause-read : goal.returns-then-eq-3-clause-read
+pub returns-then-eq-3 : goal.returns-then-eq-3
 unfolding read_explain_request
-returns-then-eq-3-clause-read c =
+returns-then-eq-3 c =
     rw (same_word c.args.form.now c.as_slice-3.result.now (codes "holding") c.eq-3.result c.eq-3.ensures c.as_slice-3.ensures c.if-eq-3.true)
-    c.holding_asked.ensures.read
+    c.holding_asked.ensures
 
-pub returns-then-eq-4-clause-read : goal.returns-then-eq-4-clause-read
+pub returns-then-eq-4 : goal.returns-then-eq-4
 unfolding read_explain_request
-returns-then-eq-4-clause-read c =
+returns-then-eq-4 c =
     rw (same_word c.args.form.now c.as_slice-4.result.now (codes "broker") c.eq-4.result c.eq-4.ensures c.as_slice-4.ensures c.if-eq-4.true)
     c.broker_asked.ensures
 
-pub returns-clause-read : goal.returns-clause-read
+pub returns : goal.returns
 unfolding read_explain_request
-returns-clause-read c =
+returns c =
     rw (
       other_word c.args.form.now c.as_slice.result.now (codes "trade") c.eq.result c.eq.ensures c.as_slice.ensures c.if-eq.false,
       other_word c.args.form.now c.as_slice-2.result.now (codes "account") c.eq-2.result c.eq-2.ensures c.as_slice-2.ensures c.if-eq-2.false,

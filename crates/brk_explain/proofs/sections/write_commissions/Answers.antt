@@ -1,4 +1,4 @@
-use Rattle.std.proofs.Common.{ℤ, ◌+ℤ◌, [], ◌∷◌, pos, refl, rules, sym, subst}
+use Rattle.std.proofs.Common.{ℤ, pos, refl, rules, sym, subst}
 use Rattle.std.specs.Io.KnownBytes.{Appends}
 use Rattle.brk_ref.specs.Rows.{abstract_trade_row}
 use Rattle.brk_model.specs.Statement.{text_of_lines}
@@ -6,7 +6,6 @@ use Rattle.brk_model.specs.Tables.{TradeRow}
 use Rattle.brk_model_explain.specs.BrokerLines.{trade_commission_line, completed_trades_of_broker}
 use Rattle.brk_model_explain.specs.Running.{lines_with_running_total}
 use Rattle.brk_report_lines.specs.Written.{FailsWithinFirstLines}
-use Rattle.brk_report.proofs.Section.{in_broken, known_end}
 use Rattle.brk_explain.specs.ExplanationParts.{broker_trade_lines}
 use Rattle.brk_explain.specs.declared.visitors.TradeCommissionWriter.{TradeCommissionWriter}
 use Rattle.brk_explain.proofs.RunningWalked.{rows_all, rows_first}
@@ -36,10 +35,3 @@ returns-in-Err-clause-written g c = λ clean t holds.
     let all = subst (λ (z : ℤ). FailsWithinFirstLines (rows_from z) (g.W.Write.contents c.args.writer.now)
     (g.W.Write.contents c.visit_broker_trades.new.visitor.writer.now) c.fault_from_walk_error.result) c.new.ensures told in
     subst (λ v. FailsWithinFirstLines (broker_trade_lines t c.args.broker) (g.W.Write.contents c.args.writer.now) (g.W.Write.contents v) c.fault_from_walk_error.result) (search rules) all
-
-pub returns-in-Err-clause-fault : goal.returns-in-Err-clause-fault
-returns-in-Err-clause-fault g c =
-    known_end g.S.Store _ _ abstract_trade_row (λ t. completed_trades_of_broker t c.args.broker) _ _ _ _ c.visit_broker_trades.result c.visit_broker_trades.ensures.walked
-    (λ (p : TradeCommissionWriter g.row.W.Denot) x e (q : TradeCommissionWriter g.row.W.Denot) h.
-    in_broken (trade_commission_line (abstract_trade_row x) (p.total +ℤ pos x.commission) ∷ []) (g.W.Write.contents p.writer.now) (g.W.Write.contents q.writer.now) e h)
-    c.in-Err.ended c.in-Err.is c.fault_from_walk_error.result c.fault_from_walk_error.ensures

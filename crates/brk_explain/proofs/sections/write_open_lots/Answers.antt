@@ -1,10 +1,10 @@
-use Rattle.std.proofs.Common.{[], ◌∷◌, map, refl, rules, sym, subst}
+use Rattle.std.proofs.Common.{map, refl, rules, sym, subst}
 use Rattle.std.specs.Io.KnownBytes.{Appends}
 use Rattle.brk_ref.specs.Rows.{abstract_holding_row}
 use Rattle.brk_model.specs.Statement.{text_of_lines, holding_rows_of_account}
 use Rattle.brk_model_explain.specs.AccountLines.{open_lot_line}
 use Rattle.brk_report_lines.specs.Written.{FailsWithinFirstLines}
-use Rattle.brk_report.proofs.Section.{in_broken, known_end, written_all, written_first}
+use Rattle.brk_report.proofs.Section.{written_all, written_first}
 use Rattle.brk_explain.specs.declared.visitors.OpenLotWriter.{OpenLotWriter}
 use Rattle.brk_explain.proofs.sections.write_open_lots.Goals as goal
 
@@ -24,10 +24,3 @@ returns-in-Err-clause-written g c = λ clean t holds.
     (g.W.Write.contents w) c.fault_from_walk_error.result) (search rules)
     (subst (λ e. FailsWithinFirstLines (map open_lot_line (holding_rows_of_account t c.args.account)) (g.W.Write.contents c.args.writer.now)
     (g.W.Write.contents c.visit_lots.new.visitor.writer.now) e) (sym c.fault_from_walk_error.ensures) w)
-
-pub returns-in-Err-clause-fault : goal.returns-in-Err-clause-fault
-returns-in-Err-clause-fault g c =
-    known_end g.S.Store _ _ abstract_holding_row (λ t. holding_rows_of_account t c.args.account) _ _ _ _ c.visit_lots.result c.visit_lots.ensures.walked
-    (λ (p : OpenLotWriter g.row.W.Denot) x e (q : OpenLotWriter g.row.W.Denot) h. in_broken (open_lot_line (abstract_holding_row x) ∷ [])
-    (g.W.Write.contents p.writer.now) (g.W.Write.contents q.writer.now) e h)
-    c.in-Err.stop c.in-Err.is c.fault_from_walk_error.result c.fault_from_walk_error.ensures

@@ -1,4 +1,4 @@
-use Rattle.std.proofs.Common.{◌≡◌, ℤ, ◌+ℤ◌, List, [], ◌∷◌, length, refl, rules, sym, subst}
+use Rattle.std.proofs.Common.{◌≡◌, ℤ, List, length, refl, rules, sym, subst}
 use Rattle.std.specs.Io.KnownBytes.{Appends}
 use Rattle.brk_ref.specs.Rows.{abstract_cash_row}
 use Rattle.brk_money.specs.Moments.{greatest_day}
@@ -8,7 +8,6 @@ use Rattle.brk_model_explain.specs.AccountLines.{account_cash_rows_by_stamp, cas
 use Rattle.brk_report_lines.specs.Written.{FailsWithinFirstLines}
 use Rattle.brk_store.specs.Walked.{cash_rows_in_span}
 use Rattle.brk_report.proofs.Days.{rows_within}
-use Rattle.brk_report.proofs.Section.{in_broken, known_end}
 use Rattle.brk_explain.specs.ExplanationParts.{account_cash_lines}
 use Rattle.brk_explain.specs.declared.visitors.CashPostingWriter.{CashPostingWriter}
 use Rattle.brk_explain.proofs.RunningWalked.{rows_all, rows_first}
@@ -44,10 +43,3 @@ returns-in-Err-clause-written g c = λ clean t holds.
     in
     subst (λ v. FailsWithinFirstLines (account_cash_lines t c.args.account c.args.opening) (g.W.Write.contents c.args.writer.now) (g.W.Write.contents v)
     c.fault_from_walk_error.result) (search rules) all
-
-pub returns-in-Err-clause-fault : goal.returns-in-Err-clause-fault
-returns-in-Err-clause-fault g c =
-    known_end g.S.Store _ _ abstract_cash_row (cash_rows_in_span c.args.account c.nearest.result c.nearest-last.result) _ _ _ _ c.visit_cash_rows.result c.visit_cash_rows.ensures.walked
-    (λ (p : CashPostingWriter g.row.W.Denot) x e (q : CashPostingWriter g.row.W.Denot) h.
-    in_broken (cash_posting_line (abstract_cash_row x) (p.balance +ℤ x.amount) ∷ []) (g.W.Write.contents p.writer.now) (g.W.Write.contents q.writer.now) e h)
-    c.in-Err.stop c.in-Err.is c.fault_from_walk_error.result c.fault_from_walk_error.ensures

@@ -15,8 +15,8 @@ loop-held-preserved c =
     let all = c.args.all.now in
     let i = c.loop-held.held-index in
     let held = c.held-item.result in
-    c.in_ok-total.ensures.sum ∙ ap (λ (z : ℤ). z +ℤ c.in_ok-worth.worth) c.loop-held.invariant
-    ∙ ap (λ (z : ℤ). lines.market_value_of_holdings (map abstract_priced_holding (take i all)) +ℤ z) c.in_ok-worth.ensures.worth
+    c.in_ok-total.ensures ∙ ap (λ (z : ℤ). z +ℤ c.in_ok-worth.worth) c.loop-held.invariant
+    ∙ ap (λ (z : ℤ). lines.market_value_of_holdings (map abstract_priced_holding (take i all)) +ℤ z) c.in_ok-worth.ensures
     ∙ sym (total_by-more market_value_of_holding (map abstract_priced_holding (take i all)) (abstract_priced_holding held))
     ∙ ap (total_by market_value_of_holding)
     (sym (map-append abstract_priced_holding (take i all) (held ∷ []))

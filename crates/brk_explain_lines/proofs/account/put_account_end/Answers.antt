@@ -3,5 +3,5 @@ use Rattle.std.proofs.lemmas.Grind.{flat_map-append}
 use Rattle.std.proofs.lemmas.List.{append_assoc, length-map}
 use Rattle.brk_explain_lines.proofs.account.put_account_end.Goals as goal
 
-pub returns-clause-ok : goal.returns-clause-ok
-returns-clause-ok c = search (rules, append_assoc, flat_map-append, length-map)
+pub returns : goal.returns
+returns c = search (rules, append_assoc, flat_map-append, length-map)

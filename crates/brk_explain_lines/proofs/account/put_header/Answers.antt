@@ -6,9 +6,9 @@ use Rattle.std.proofs.Common.{◌≡◌, ◌∙◌, ◌++◌, ◌∷◌, [], cod
 use Rattle.brk_model_explain.specs.AccountLines.{account_header_lines}
 use Rattle.brk_explain_lines.proofs.account.put_header.Goals as goal
 
-pub returns-clause-ok : goal.returns-clause-ok
+pub returns : goal.returns
 unfolding account_header_lines
-returns-clause-ok c =
+returns c =
     let row = c.args.row.now in
     let name = c.as_bytes.ensures.value ∙ c.as_str.ensures in
     let status = c.from.ensures ∙ c.number.ensures in
@@ -33,12 +33,12 @@ returns-clause-ok c =
     let r4 = a4 ++ r5 in
     let r3 = a3 ++ r4 in
     let r2 = a2 ++ r3 in
-    on_ok {P = x7 ≡ x6 ++ a7} c.put_text_line.result c.put_text_line.ensures.ok
-    (λ h. more o a1 r2 x1 x7 c.in_ok-put_title_line.ensures.ok
-    (more x1 a2 r3 x2 x7 c.in_ok-put_text_fact.ensures.ok
-    (more x2 a3 r4 x3 x7 c.in_ok-put_number_fact.ensures.ok
-    (more x3 a4 r5 x4 x7 c.in_ok-put_number_fact-2.ensures.ok
-    (more x4 a5 r6 x5 x7 c.in_ok-put_number_fact-3.ensures.ok (more x5 a6 r7 x6 x7 c.in_ok-put_amount_fact.ensures.ok (last x6 a7 x7 h))))))
+    on_ok {P = x7 ≡ x6 ++ a7} c.put_text_line.result c.put_text_line.ensures
+    (λ h. more o a1 r2 x1 x7 c.in_ok-put_title_line.ensures
+    (more x1 a2 r3 x2 x7 c.in_ok-put_text_fact.ensures
+    (more x2 a3 r4 x3 x7 c.in_ok-put_number_fact.ensures
+    (more x3 a4 r5 x4 x7 c.in_ok-put_number_fact-2.ensures
+    (more x4 a5 r6 x5 x7 c.in_ok-put_number_fact-3.ensures (more x5 a6 r7 x6 x7 c.in_ok-put_amount_fact.ensures (last x6 a7 x7 h))))))
     ∙ (λ i. o ++ text_of_lines
     ((codes "Account " ++ decimal row.account.id ++ codes ", times in UTC") ∷ (labeled_text (codes "Name") (name i))
     ∷ (labeled_number (codes "Customer") (c.get.ensures.value i)) ∷ (labeled_number (codes "Broker") (c.get-2.ensures.value i))

@@ -18,7 +18,7 @@ loop-held-preserved c =
     let first = map holding_line (map abstract_priced_holding (take i all)) in
     let next = holding_line (abstract_priced_holding held) in
     more o (text_of_lines first) (line_with_line_feed next ++ []) c.loop-held.out.items c.put_holding.new.out.items c.loop-held.invariant
-    (last c.loop-held.out.items (line_with_line_feed next) c.put_holding.new.out.items c.in_ok-put_holding.ensures.ok)
+    (last c.loop-held.out.items (line_with_line_feed next) c.put_holding.new.out.items c.in_ok-put_holding.ensures)
     ∙ ap (λ (t : Text). o ++ t) (sym (flat_map-append line_with_line_feed first (next ∷ [])))
     ∙ ap (λ hs. o ++ text_of_lines hs)
     (sym (map-append holding_line (map abstract_priced_holding (take i all)) (abstract_priced_holding held ∷ []))

@@ -4,18 +4,18 @@ use Rattle.std.proofs.Common.{◌≡◌, ◌++◌, ◌∷◌, [], codes}
 use Rattle.brk_model_explain.specs.AccountLines.{holding_line_start}
 use Rattle.brk_explain_lines.proofs.account.put_line_start.Goals as goal
 
-pub returns-clause-ok : goal.returns-clause-ok
+pub returns : goal.returns
 unfolding holding_line_start
-returns-clause-ok c =
+returns c =
     let o = c.args.out.now.items in
     let x1 = c.put_text.new.out.items in
     let t1a = codes "Held   " in
     let s1 = t1a in
-    let h1 = c.in_ok-put_text.ensures.ok in
+    let h1 = c.in_ok-put_text.ensures in
     let x2 = c.append_left.new.out.items in
     let t2a = left_aligned_text 15 c.args.symbol.now in
     let s2 = s1 ++ t2a in
-    let h2 = more o s1 t2a x1 x2 h1 c.in_ok-append_left.ensures.ok in
+    let h2 = more o s1 t2a x1 x2 h1 c.in_ok-append_left.ensures in
     let x3 = c.put_column.new.out.items in
     let t3a = 32 ∷ right_aligned_text 13 [] in
-    on_ok {P = x3 ≡ x2 ++ t3a} c.put_column.result c.put_column.ensures.ok (λ h. more o s2 t3a x2 x3 h2 h)
+    on_ok {P = x3 ≡ x2 ++ t3a} c.put_column.result c.put_column.ensures (λ h. more o s2 t3a x2 x3 h2 h)

@@ -4,6 +4,6 @@ use Rattle.std.proofs.lemmas.List.{append_assoc}
 use Rattle.brk_model_explain.specs.TradeLines.{lot_and_gain_lines, lot_closing_lines}
 use Rattle.brk_explain_lines.proofs.lots_lines.put_booking.Goals as goal
 
-pub returns-clause-ok : goal.returns-clause-ok
+pub returns : goal.returns
 unfolding lot_and_gain_lines lot_closing_lines
-returns-clause-ok c = search (rules, append_assoc, flat_map-append)
+returns c = search (rules, append_assoc, flat_map-append)

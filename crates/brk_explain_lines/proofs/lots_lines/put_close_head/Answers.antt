@@ -6,16 +6,16 @@ use Rattle.std.proofs.Common.{◌≡◌, ◌∙◌, ◌++◌, ◌∷◌, [], cod
 use Rattle.brk_model_explain.specs.TradeLines.{price_and_lot_header_lines}
 use Rattle.brk_explain_lines.proofs.lots_lines.put_close_head.Goals as goal
 
-pub returns-clause-ok : goal.returns-clause-ok
+pub returns : goal.returns
 unfolding price_and_lot_header_lines
-returns-clause-ok c =
+returns c =
     let o = c.args.out.now.items in
     let x1 = c.put_amount_fact.new.out.items in
     let a1 = line_with_line_feed (labeled_amount (codes "Price") c.from.result) in
     let x2 = c.put_text_line.new.out.items in
     let a2 = line_with_line_feed (codes "#      opened                            lot      shares      price       bought for         sold for        left") in
     let r2 = a2 ++ [] in
-    on_ok {P = x2 ≡ x1 ++ a2} c.put_text_line.result c.put_text_line.ensures.ok (λ h. more o a1 r2 x1 x2 c.in_ok-put_amount_fact.ensures.ok (last x1 a2 x2 h)
+    on_ok {P = x2 ≡ x1 ++ a2} c.put_text_line.result c.put_text_line.ensures (λ h. more o a1 r2 x1 x2 c.in_ok-put_amount_fact.ensures (last x1 a2 x2 h)
     ∙ (λ i. o ++ text_of_lines
     ((labeled_amount (codes "Price") (c.from.ensures i))
     ∷ (codes "#      opened                            lot      shares      price       bought for         sold for        left") ∷ [])))

@@ -7,9 +7,9 @@ use Rattle.brk_report_lines.specs.Written.{line_with_line_feed}
 use Rattle.brk_explain_columns.proofs.Chains.{last, more}
 use Rattle.brk_explain_lines.proofs.order_lines.put_order_terms.Goals as goal
 
-pub returns-clause-ok : goal.returns-clause-ok
+pub returns : goal.returns
 unfolding order_terms_lines
-returns-clause-ok c =
+returns c =
     let o0 = abstract_order_details c.args.order.now in
     let qty = c.from.ensures ∙ c.get.ensures.value in
     let settles = c.as_bytes.ensures.value ∙ c.cash_or_margin_word.ensures in
@@ -32,11 +32,11 @@ returns-clause-ok c =
     let r4 = a4 ++ r5 in
     let r3 = a3 ++ r4 in
     let r2 = a2 ++ r3 in
-    more o a1 r2 x1 x6 c.in_ok-put_trade_type.ensures.ok
-    (more x1 a2 r3 x2 x6 c.in_ok-put_security.ensures.ok
-    (more x2 a3 r4 x3 x6 c.in_ok-put_number_fact.ensures.ok
-    (more x3 a4 r5 x4 x6 c.in_ok-put_amount_fact.ensures.ok
-    (more x4 a5 r6 x5 x6 c.in_ok-put_text_fact.ensures.ok (last x5 a6 x6 c.in_ok-put_text_fact-2.ensures.ok)))))
+    more o a1 r2 x1 x6 c.in_ok-put_trade_type.ensures
+    (more x1 a2 r3 x2 x6 c.in_ok-put_security.ensures
+    (more x2 a3 r4 x3 x6 c.in_ok-put_number_fact.ensures
+    (more x3 a4 r5 x4 x6 c.in_ok-put_amount_fact.ensures
+    (more x4 a5 r6 x5 x6 c.in_ok-put_text_fact.ensures (last x5 a6 x6 c.in_ok-put_text_fact-2.ensures)))))
     ∙ (λ i.
     c.args.out.now.items
     ++ text_of_lines (trade_type_line o0 ∷ trade_security_line o0 ∷ labeled_number (codes "Shares") (qty i)

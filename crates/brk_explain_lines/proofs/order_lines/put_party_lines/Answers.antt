@@ -7,9 +7,9 @@ use Rattle.brk_report_lines.specs.Written.{line_with_line_feed}
 use Rattle.brk_explain_columns.proofs.Chains.{last, more}
 use Rattle.brk_explain_lines.proofs.order_lines.put_party_lines.Goals as goal
 
-pub returns-clause-ok : goal.returns-clause-ok
+pub returns : goal.returns
 unfolding title_and_party_lines
-returns-clause-ok c =
+returns c =
     let o0 = abstract_order_details c.args.order.now in
     let o = c.args.out.now.items in
     let x1 = c.put_title_line.new.out.items in
@@ -26,10 +26,10 @@ returns-clause-ok c =
     let r4 = a4 ++ r5 in
     let r3 = a3 ++ r4 in
     let r2 = a2 ++ r3 in
-    more o a1 r2 x1 x5 c.in_ok-put_title_line.ensures.ok
-    (more x1 a2 r3 x2 x5 c.in_ok-put_account.ensures.ok
-    (more x2 a3 r4 x3 x5 c.in_ok-put_number_fact.ensures.ok
-    (more x3 a4 r5 x4 x5 c.in_ok-put_number_fact-2.ensures.ok (last x4 a5 x5 c.in_ok-put_text_fact.ensures.ok))))
+    more o a1 r2 x1 x5 c.in_ok-put_title_line.ensures
+    (more x1 a2 r3 x2 x5 c.in_ok-put_account.ensures
+    (more x2 a3 r4 x3 x5 c.in_ok-put_number_fact.ensures
+    (more x3 a4 r5 x4 x5 c.in_ok-put_number_fact-2.ensures (last x4 a5 x5 c.in_ok-put_text_fact.ensures))))
     ∙ (λ i.
     c.args.out.now.items
     ++ text_of_lines (trade_title_line o0 ∷ trade_account_line o0 ∷ labeled_number (codes "Customer") (c.get.ensures.value i) ∷ labeled_number (codes "Broker") (c.get-2.ensures.value i)

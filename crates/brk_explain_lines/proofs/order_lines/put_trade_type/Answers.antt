@@ -4,16 +4,16 @@ use Rattle.brk_explain_columns.proofs.Chains.{line_end, on_ok}
 use Rattle.std.proofs.Common.{◌≡◌, ◌∙◌, ◌++◌, ◌∷◌, codes}
 use Rattle.brk_explain_lines.proofs.order_lines.put_trade_type.Goals as goal
 
-pub returns-clause-ok : goal.returns-clause-ok
-returns-clause-ok c =
+pub returns : goal.returns
+returns c =
     let code = c.as_bytes.ensures.value ∙ c.code.ensures in
     let name = c.as_bytes-2.ensures.value ∙ c.name.ensures in
     let o = c.args.out.now.items in
     let x1 = c.label_text.new.out.items in
     let t1a = labeled_text (codes "Type") c.as_bytes.result.now in
     let s1 = t1a in
-    let h1 = c.in_ok-label_text.ensures.ok in
+    let h1 = c.in_ok-label_text.ensures in
     let x2 = c.put_spaced_line.new.out.items in
     let t2a = 32 ∷ c.as_bytes-2.result.now in
-    on_ok {P = x2 ≡ x1 ++ line_with_line_feed t2a} c.put_spaced_line.result c.put_spaced_line.ensures.ok (λ h. line_end o s1 t2a x1 x2 h1 h
+    on_ok {P = x2 ≡ x1 ++ line_with_line_feed t2a} c.put_spaced_line.result c.put_spaced_line.ensures (λ h. line_end o s1 t2a x1 x2 h1 h
     ∙ (λ i. o ++ (line_with_line_feed ((labeled_text (codes "Type") (code i)) ++ (32 ∷ (name i))))))

@@ -6,9 +6,9 @@ use Rattle.brk_report_lines.specs.Written.{line_with_line_feed}
 use Rattle.brk_explain_columns.proofs.Chains.{last, more}
 use Rattle.brk_explain_lines.proofs.settlement_lines.put_settlement.Goals as goal
 
-pub returns-clause-ok : goal.returns-clause-ok
+pub returns : goal.returns
 unfolding trade_settlement_lines
-returns-clause-ok c =
+returns c =
     let word = c.as_bytes.ensures.value ∙ c.text.ensures in
     let o = c.args.out.now.items in
     let x1 = c.put_amount_fact.new.out.items in
@@ -28,11 +28,11 @@ returns-clause-ok c =
     let r4 = a4 ++ r5 in
     let r3 = a3 ++ r4 in
     let r2 = a2 ++ r3 in
-    more o a1 r2 x1 x6 c.in_ok-put_amount_fact.ensures.ok
-    (more x1 a2 r3 x2 x6 c.in_ok-put_amount_fact-2.ensures.ok
-    (more x2 a3 r4 x3 x6 c.in_ok-put_amount_fact-3.ensures.ok
-    (more x3 a4 r5 x4 x6 c.in_ok-put_amount_fact-4.ensures.ok
-    (more x4 a5 r6 x5 x6 c.in_ok-put_amount_fact-5.ensures.ok (last x5 a6 x6 c.in_ok-put_text_fact.ensures.ok)))))
+    more o a1 r2 x1 x6 c.in_ok-put_amount_fact.ensures
+    (more x1 a2 r3 x2 x6 c.in_ok-put_amount_fact-2.ensures
+    (more x2 a3 r4 x3 x6 c.in_ok-put_amount_fact-3.ensures
+    (more x3 a4 r5 x4 x6 c.in_ok-put_amount_fact-4.ensures
+    (more x4 a5 r6 x5 x6 c.in_ok-put_amount_fact-5.ensures (last x5 a6 x6 c.in_ok-put_text_fact.ensures)))))
     ∙ (λ i.
     c.args.out.now.items
     ++ text_of_lines (labeled_amount (codes "Value") (c.signed_trade_value.ensures i) ∷ labeled_amount (codes "Charge") (c.less_charge.ensures i)

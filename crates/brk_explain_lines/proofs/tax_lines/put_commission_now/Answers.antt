@@ -1,10 +1,10 @@
 use Rattle.brk_model_explain.specs.TradeLines.{current_commission_line}
 use Rattle.brk_explain_lines.proofs.tax_lines.put_commission_now.Goals as goal
 
-pub returns-in-Some-clause-ok : goal.returns-in-Some-clause-ok
+pub returns-in-Some : goal.returns-in-Some
 unfolding current_commission_line
-returns-in-Some-clause-ok c = rw c.in-Some.is (rw c.from.ensures at c.put_amount_fact.ensures.ok)
+returns-in-Some c = rw c.in-Some.is (rw c.from.ensures at c.put_amount_fact.ensures)
 
-pub returns-in-None-clause-ok : goal.returns-in-None-clause-ok
+pub returns-in-None : goal.returns-in-None
 unfolding current_commission_line
-returns-in-None-clause-ok c = rw c.in-None.is c.put_value_fact.ensures.ok
+returns-in-None c = rw c.in-None.is c.put_value_fact.ensures

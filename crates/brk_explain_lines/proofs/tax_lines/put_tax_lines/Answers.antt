@@ -4,6 +4,6 @@ use Rattle.std.proofs.lemmas.List.{append_assoc}
 use Rattle.brk_model_explain.specs.TradeLines.{trade_tax_lines}
 use Rattle.brk_explain_lines.proofs.tax_lines.put_tax_lines.Goals as goal
 
-pub returns-clause-ok : goal.returns-clause-ok
+pub returns : goal.returns
 unfolding trade_tax_lines
-returns-clause-ok c = search (rules, append_assoc, flat_map-append)
+returns c = search (rules, append_assoc, flat_map-append)

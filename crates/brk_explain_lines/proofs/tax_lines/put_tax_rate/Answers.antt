@@ -5,27 +5,27 @@ use Rattle.std.proofs.Common.{◌≡◌, ◌∙◌, ◌++◌, ◌∷◌, codes, 
 use Rattle.brk_model_explain.specs.TradeLines.{tax_rate_line}
 use Rattle.brk_explain_lines.proofs.tax_lines.put_tax_rate.Goals as goal
 
-pub returns-clause-ok : goal.returns-clause-ok
+pub returns : goal.returns
 unfolding tax_rate_line
-returns-clause-ok c =
+returns c =
     let rate = c.from.ensures ∙ c.get-2.ensures.value in
     let name = c.as_bytes.ensures.value ∙ c.as_str.ensures in
     let o = c.args.out.now.items in
     let x1 = c.append_left.new.out.items in
     let t1a = left_aligned_text 6 (codes "Rate") in
     let s1 = t1a in
-    let h1 = c.in_ok-append_left.ensures.ok in
+    let h1 = c.in_ok-append_left.ensures in
     let x2 = c.align_number.new.out.items in
     let t2a = 32 ∷ right_aligned_text 13 (decimal c.get.result) in
     let s2 = s1 ++ t2a in
-    let h2 = more o s1 t2a x1 x2 h1 c.in_ok-align_number.ensures.ok in
+    let h2 = more o s1 t2a x1 x2 h1 c.in_ok-align_number.ensures in
     let x3 = c.align_number-2.new.out.items in
     let t3a = 32 ∷ right_aligned_text 11 (decimal c.from.result) in
     let s3 = s2 ++ t3a in
-    let h3 = more o s2 t3a x2 x3 h2 c.in_ok-align_number-2.ensures.ok in
+    let h3 = more o s2 t3a x2 x3 h2 c.in_ok-align_number-2.ensures in
     let x4 = c.put_spaced_line.new.out.items in
     let t4a = 32 ∷ c.as_bytes.result.now in
-    on_ok {P = x4 ≡ x3 ++ line_with_line_feed t4a} c.put_spaced_line.result c.put_spaced_line.ensures.ok (λ h. line_end o s3 t4a x3 x4 h3 h
+    on_ok {P = x4 ≡ x3 ++ line_with_line_feed t4a} c.put_spaced_line.result c.put_spaced_line.ensures (λ h. line_end o s3 t4a x3 x4 h3 h
     ∙ (λ i. o ++ (line_with_line_feed
     ((((left_aligned_text 6 (codes "Rate")) ++ (32 ∷ right_aligned_text 13 (decimal (c.get.ensures.value i))))
     ++ (32 ∷ right_aligned_text 11 (decimal (rate i)))) ++ (32 ∷ (name i))))))

@@ -4,6 +4,6 @@ use Rattle.std.proofs.lemmas.List.{append_assoc}
 use Rattle.brk_model_explain.specs.TradeLines.{trade_explanation_lines}
 use Rattle.brk_explain_lines.proofs.trade.explained_trade.Goals as goal
 
-pub returns-clause-text : goal.returns-clause-text
+pub returns : goal.returns
 unfolding trade_explanation_lines
-returns-clause-text c = search (rules, append_assoc, flat_map-append)
+returns c = search (rules, append_assoc, flat_map-append)

@@ -2,12 +2,12 @@ use Rattle.std.proofs.Common.{◌++◌}
 use Rattle.brk_model_explain.specs.TradeLines as lines
 use Rattle.brk_model_explain.specs.TradeLines.{completed_trade_lines}
 use Rattle.brk_explain_rows.specs.Details.{abstract_order_details, abstract_result_details}
-use Rattle.brk_explain_columns.proofs.Chains.{more_lines, on_ok}
+use Rattle.brk_explain_columns.proofs.Chains.{more_lines}
 use Rattle.brk_explain_lines.proofs.trade.put_completed.Goals as goal
 
-pub returns-clause-ok : goal.returns-clause-ok
+pub returns : goal.returns
 unfolding completed_trade_lines
-returns-clause-ok c =
+returns c =
     let order = abstract_order_details c.args.order.now in
     let details = abstract_result_details c.args.details.now in
     let o = c.args.out.now.items in
@@ -24,10 +24,10 @@ returns-clause-ok c =
     let x6 = c.put_balance.new.out.items in
     let l6 = lines.trade_balance_lines order details in
     let x7 = c.put_trade_end.new.out.items in
-    let h2 = more_lines o x1 x2 l1 l2 c.in_ok-put_booking.ensures.ok c.in_ok-put_tax_lines.ensures.ok in
-    let h3 = more_lines o x2 x3 (l1 ++ l2) l3 h2 c.in_ok-put_commission.ensures.ok in
-    let h4 = more_lines o x3 x4 (l1 ++ l2 ++ l3) l4 h3 c.in_ok-put_settlement.ensures.ok in
-    let h5 = more_lines o x4 x5 (l1 ++ l2 ++ l3 ++ l4) l5 h4 c.in_ok-put_due_days.ensures.ok in
-    let h6 = more_lines o x5 x6 (l1 ++ l2 ++ l3 ++ l4 ++ l5) l6 h5 c.in_ok-put_balance.ensures.ok in
-    on_ok c.put_trade_end.result c.put_trade_end.ensures.ok
-    (λ h. more_lines o x6 x7 (l1 ++ l2 ++ l3 ++ l4 ++ l5 ++ l6) (lines.counts_lines_of_trade order details) h6 h)
+    let h2 = more_lines o x1 x2 l1 l2 c.in_ok-put_booking.ensures c.in_ok-put_tax_lines.ensures in
+    let h3 = more_lines o x2 x3 (l1 ++ l2) l3 h2 c.in_ok-put_commission.ensures in
+    let h4 = more_lines o x3 x4 (l1 ++ l2 ++ l3) l4 h3 c.in_ok-put_settlement.ensures in
+    let h5 = more_lines o x4 x5 (l1 ++ l2 ++ l3 ++ l4) l5 h4 c.in_ok-put_due_days.ensures in
+    let h6 = more_lines o x5 x6 (l1 ++ l2 ++ l3 ++ l4 ++ l5) l6 h5 c.in_ok-put_balance.ensures in
+    let h = c.in_ok-put_trade_end.ensures in
+    more_lines o x6 x7 (l1 ++ l2 ++ l3 ++ l4 ++ l5 ++ l6) (lines.counts_lines_of_trade order details) h6 h

@@ -1,5 +1,5 @@
 use Rattle.std.proofs.Common.{◌≡◌, ◌==◌, ℕ, None, Option, Some, find, map, option_map, sym}
-use Rattle.brk_money.specs.declared.fault.Fault.{Fault}
+use Rattle.brk_money.specs.declared.fault.CallFault.{CallFault}
 use Rattle.brk_model.specs.Tables.{AccountRow, Tables}
 use Rattle.brk_ref.specs.Records.{abstract_account_row}
 use Rattle.brk_ref.specs.declared.account.AccountRow as row
@@ -16,26 +16,26 @@ use Rattle.brk_explain_reads.proofs.accounts.gather_account.Goals as goal
 abbrev IsRowOf : ℕ → Option row.AccountRow → Tables → Type 0
 IsRowOf id o t = option_map abstract_account_row o ≡ find (λ (r : AccountRow). r.id == id) t.accounts
 
-pub returns-in_default-clause-read : goal.returns-in_default-clause-read
-returns-in_default-clause-read g c =
+pub returns-in_default : goal.returns-in_default
+returns-in_default g c =
     retold g.S.Store c.args.store.now c.account.new.self {V = Option row.AccountRow} {X = Option AccountDetails} None None
     (IsRowOf c.args.account) (AreDetailsOfAccount c.args.account) (λ t e. sym e)
     (rw c.in_default.is at c.in_ok-row.ensures.read)
 
-pub returns-clause-read : goal.returns-clause-read
-returns-clause-read g c =
+pub returns : goal.returns
+returns g c =
     let row = c.in-Some.row in
     let held = c.in_ok-held.held in
     let details : AccountDetails = record { account = row; held = held } in
-    read_with g.S.Store c.args.store.now c.account.new.self c.price_holdings.new.store {H = Fault} (Some row) held (Some details)
+    read_with g.S.Store c.args.store.now c.account.new.self c.price_holdings.new.store {H = CallFault} (Some row) held (Some details)
     (IsRowOf c.args.account) (λ held (t : Tables). map abstract_priced_holding held.items ≡ priced_holdings_of_account t c.args.account) (AreDetailsOfAccount c.args.account)
     (λ t e k. (sym e, k))
-    (rw c.in-Some.is at c.in_ok-row.ensures.read) c.in_ok-held.ensures.read
+    (rw c.in-Some.is at c.in_ok-row.ensures.read) c.in_ok-held.ensures
 
-pub returns-in_err-held-clause-read : goal.returns-in_err-held-clause-read
-returns-in_err-held-clause-read g c =
+pub returns-in_err-held : goal.returns-in_err-held
+returns-in_err-held g c =
     let old = c.args.store.now in
     let mid = c.account.new.self in
     let end = c.price_holdings.new.store in
     let p = err_from_is_err_and c.from_residual-in_err-held.result c.from_residual-in_err-held.ensures.1 in
-    rw p.1 (none_read g.S.Store old end p.0 _ (both_change_nothing g.S.Store old mid end _ _ _ _ c.in_ok-row.ensures.read c.in_err-held.ensures.read))
+    rw p.1 (none_read g.S.Store old end p.0 _ (both_change_nothing g.S.Store old mid end _ _ _ _ c.in_ok-row.ensures.read c.in_err-held.ensures))

@@ -8,8 +8,8 @@ use Rattle.brk_explain_rows.specs.Details.{abstract_priced_holding}
 use Rattle.brk_explain_rows.specs.declared.account_details.PricedHolding.{PricedHolding}
 use Rattle.brk_explain_reads.proofs.accounts.price_holding.Goals as goal
 
-pub returns-clause-read : goal.returns-clause-read
-returns-clause-read g c =
+pub returns : goal.returns
+returns g c =
     let summary = c.args.summary in
     let price = c.in_ok-price.price in
     let held : PricedHolding = record { summary = summary; price = price } in

@@ -1,5 +1,5 @@
 use Rattle.std.proofs.Common.{◌≡◌, ◌==◌, ◌∙◌, ◌++◌, ◌∷◌, [], ℕ, List, ap, filter, map, reverse, sym}
-use Rattle.brk_money.specs.declared.fault.Fault.{Fault}
+use Rattle.brk_money.specs.declared.fault.CallFault.{CallFault}
 use Rattle.brk_ref.specs.Rows.{abstract_summary_row}
 use Rattle.brk_ref.specs.declared.summary_row.SummaryRow as row
 use Rattle.brk_model.specs.Tables.{SummaryRow, Tables}
@@ -20,7 +20,7 @@ AreHeld account rest held t = map (λ r. priced_holding t (abstract_summary_row 
 pub loop-summary-init : goal.loop-summary-init
 loop-summary-init g c =
     let rest = c.in_ok-rest.rest in
-    retold g.S.Store c.args.store.now c.summaries_of.new.self rest tt
+    retold g.S.Store c.args.store.now c.read_summaries.new.self rest tt
     (λ all (t : Tables). map abstract_summary_row all.items ≡ filter (λ (r : SummaryRow). r.account == c.args.account) t.summaries)
     (λ _. AreHeld c.args.account rest.items c.new-held.result.items)
     (λ t e. none_made (λ r. priced_holding t (abstract_summary_row r)) abstract_priced_holding rest.items c.new-held.result.items c.new-held.ensures.items
@@ -35,15 +35,15 @@ loop-summary-preserved g c =
     let all = c.loop-summary.held.items in
     let one = c.in_ok-one.one in
     rw c.in_ok-push.ensures.items
-    (read_with g.S.Store c.args.store.now c.loop-summary.store c.price_holding.new.store {H = Fault} tt one tt
+    (read_with g.S.Store c.args.store.now c.loop-summary.store c.price_holding.new.store {H = CallFault} tt one tt
     (λ _. AreHeld c.args.account before all)
     (λ held (t : Tables). abstract_priced_holding held ≡ priced_holding t (abstract_summary_row summary))
     (λ _. AreHeld c.args.account rest (all ++ one ∷ []))
     (λ t p e. popped (λ r. priced_holding t (abstract_summary_row r)) abstract_priced_holding before rest summary all one _ c.in-Some.ensures.items p e)
-    c.loop-summary.invariant c.in_ok-one.ensures.read)
+    c.loop-summary.invariant c.in_ok-one.ensures)
 
-pub returns-clause-read : goal.returns-clause-read
-returns-clause-read g c =
+pub returns : goal.returns
+returns g c =
     let rest = c.loop-summary.rest in
     let held = c.loop-summary.held.items in
     retold g.S.Store c.args.store.now c.loop-summary.store tt c.reverse.new.self
@@ -53,20 +53,20 @@ returns-clause-read g c =
     ∙ all_made (λ r. priced_holding t (abstract_summary_row r)) abstract_priced_holding rest.items held _ (sym rest.ok.0 ∙ c.in_default.ensures.cases.0) p)
     c.loop-summary.invariant
 
-pub returns-in_err-one-clause-read : goal.returns-in_err-one-clause-read
-returns-in_err-one-clause-read g c =
+pub returns-in_err-one : goal.returns-in_err-one
+returns-in_err-one g c =
     let old = c.args.store.now in
     let mid = c.loop-summary.store in
     let end = c.price_holding.new.store in
     let left = λ (_ : Unit {0}). AreHeld c.args.account c.loop-summary.rest.items c.loop-summary.held.items in
     let p = err_from_is_err_and c.from_residual-in_err-one.result c.from_residual-in_err-one.ensures.1 in
-    rw p.1 (none_read g.S.Store old end p.0 _ (both_change_nothing g.S.Store old mid end _ _ left _ c.loop-summary.invariant c.in_err-one.ensures.read))
+    rw p.1 (none_read g.S.Store old end p.0 _ (both_change_nothing g.S.Store old mid end _ _ left _ c.loop-summary.invariant c.in_err-one.ensures))
 
-pub returns-in_err-push-clause-read : goal.returns-in_err-push-clause-read
-returns-in_err-push-clause-read g c =
+pub returns-in_err-push : goal.returns-in_err-push
+returns-in_err-push g c =
     let old = c.args.store.now in
     let mid = c.loop-summary.store in
     let end = c.price_holding.new.store in
     let left = λ (_ : Unit {0}). AreHeld c.args.account c.loop-summary.rest.items c.loop-summary.held.items in
     let p = err_from_is_err_and c.from_residual-in_err-push.result c.from_residual-in_err-push.ensures.1 in
-    rw p.1 (none_read g.S.Store old end p.0 _ (both_change_nothing g.S.Store old mid end _ _ left _ c.loop-summary.invariant c.in_ok-one.ensures.read))
+    rw p.1 (none_read g.S.Store old end p.0 _ (both_change_nothing g.S.Store old mid end _ _ left _ c.loop-summary.invariant c.in_ok-one.ensures))

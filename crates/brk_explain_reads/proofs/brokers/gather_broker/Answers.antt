@@ -1,5 +1,5 @@
 use Rattle.std.proofs.Common.{◌≡◌, ◌==◌, ◌∙◌, ℕ, None, Option, Some, ap, filter, find, length, map, option_map, sym}
-use Rattle.brk_money.specs.declared.fault.Fault.{Fault}
+use Rattle.brk_money.specs.declared.fault.CallFault.{CallFault}
 use Rattle.brk_model.specs.Tables.{AccountRow, BrokerRow, Tables}
 use Rattle.brk_ref.specs.Records.{abstract_broker_row}
 use Rattle.brk_ref.specs.declared.broker.BrokerRow as row
@@ -16,25 +16,25 @@ use Rattle.brk_explain_reads.proofs.brokers.gather_broker.Goals as goal
 abbrev IsRowOf : ℕ → Option row.BrokerRow → Tables → Type 0
 IsRowOf id o t = option_map abstract_broker_row o ≡ find (λ (r : BrokerRow). r.id == id) t.brokers
 
-pub returns-in_default-clause-read : goal.returns-in_default-clause-read
-returns-in_default-clause-read g c =
+pub returns-in_default : goal.returns-in_default
+returns-in_default g c =
     retold g.S.Store c.args.store.now c.broker.new.self {V = Option row.BrokerRow} {X = Option BrokerDetails} None None
     (IsRowOf c.args.broker) (AreDetailsOfBroker c.args.broker) (λ t e. sym e)
     (rw c.in_default.is at c.in_ok-row.ensures.read)
 
-pub returns-clause-read : goal.returns-clause-read
-returns-clause-read g c =
+pub returns : goal.returns
+returns g c =
     let broker = c.args.broker in
     let row = c.in-Some.row in
     let accounts = c.in_ok-accounts.accounts in
     let details : BrokerDetails = record { broker = row; accounts = c.len.result } in
-    read_with g.S.Store c.args.store.now c.broker.new.self c.broker_account_ids.new.self {H = Fault} (Some row) accounts (Some details)
+    read_with g.S.Store c.args.store.now c.broker.new.self c.broker_account_ids.new.self {H = CallFault} (Some row) accounts (Some details)
     (IsRowOf broker) (λ all (t : Tables). all.items ≡ map (λ (r : AccountRow). r.id) (filter (λ (r : AccountRow). r.broker == broker) t.accounts)) (AreDetailsOfBroker broker)
     (λ t e k. (sym e, c.len.ensures ∙ accounts.ok.0 ∙ ap length k ∙ length_map (λ (r : AccountRow). r.id) (filter (λ (r : AccountRow). r.broker == broker) t.accounts)))
     (rw c.in-Some.is at c.in_ok-row.ensures.read) c.in_ok-accounts.ensures.read
 
-pub returns-in_err-accounts-clause-read : goal.returns-in_err-accounts-clause-read
-returns-in_err-accounts-clause-read g c =
+pub returns-in_err-accounts : goal.returns-in_err-accounts
+returns-in_err-accounts g c =
     let old = c.args.store.now in
     let mid = c.broker.new.self in
     let end = c.broker_account_ids.new.self in

@@ -12,8 +12,7 @@ use Rattle.brk_explain_reads.proofs.brokers.visit_broker_trades.Goals as goal
 pub returns-in-Err-clause-walked : goal.returns-in-Err-clause-walked
 returns-in-Err-clause-walked g c =
     walk_none g.S.Store c.args.store.now c.broker_account_ids.new.self abstract_trade_row (λ t. completed_trades_of_broker t c.args.broker) g.V.Visitor.takes
-    g.V.Visitor.stops c.args.visitor.now c.in-Err.fault _
-    (let may = c.broker_account_ids.ensures.fault in rw c.in-Err.is at may) (rw c.in-Err.is at c.broker_account_ids.ensures.read)
+    g.V.Visitor.stops c.args.visitor.now c.in-Err.fault _ (rw c.in-Err.is at c.broker_account_ids.ensures.read)
 
 pub returns-clause-walked : goal.returns-clause-walked
 returns-clause-walked g c =

@@ -3,7 +3,7 @@ use Rattle.std.specs.Prelude.{flat_map, option_to_list}
 use Rattle.std.proofs.lemmas.List.{take_all}
 use Rattle.sqlite.specs.Held.{state}
 use Rattle.brk_money.specs.Spelling.{Text}
-use Rattle.brk_money.specs.declared.fault.Fault.{Fault}
+use Rattle.brk_money.specs.declared.fault.CallFault.{CallFault}
 use Rattle.brk_ref.specs.Rows.{abstract_trade_row}
 use Rattle.brk_ref.specs.declared.trade_row.TradeRow as trade
 use Rattle.brk_model.specs.Joins.{trade_row_with_id}
@@ -48,7 +48,7 @@ loop-id-preserved g c =
     let lots = c.loop-id.held.lots.items in
     let one = c.in_ok-one.one in
     rw c.in_ok-push_trade.ensures.done
-    (read_with g.S.Store c.args.store.now c.loop-id.store c.held_trade.new.store {H = Fault} tt one tt
+    (read_with g.S.Store c.args.store.now c.loop-id.store c.held_trade.new.store {H = CallFault} tt one tt
     (λ _. FirstTrades c.args.account c.args.symbol.now ids done lots i)
     (λ one (t : Tables). IsTradeWithLot t id one)
     (λ _. FirstTrades c.args.account c.args.symbol.now ids (done ++ one.trade ∷ []) c.push_trade.new.held.lots.items (i + 1))
@@ -58,10 +58,10 @@ loop-id-preserved g c =
       c.in_ok-push_trade.ensures.lots ∙ (λ j. p.2 j ++ option_to_list (e.1 j)) ∙ sym (flat_one (λ id. option_to_list (lot_opened_by_trade t id)) (take i ids) id)
           ∙ ap (found_lots t) (first_more ids i id c.loop-id-test.true c.id-item.is),
     ))
-    c.loop-id.invariant c.in_ok-one.ensures.read)
+    c.loop-id.invariant c.in_ok-one.ensures)
 
-pub returns-clause-read : goal.returns-clause-read
-returns-clause-read g c =
+pub returns : goal.returns
+returns g c =
     let account = c.args.account in
     let symbol = c.args.symbol.now in
     let ids = c.deref-id-items.result.now in
@@ -78,18 +78,18 @@ returns-clause-read g c =
     ))
     c.loop-id.invariant
 
-pub returns-in_err-one-clause-read : goal.returns-in_err-one-clause-read
-returns-in_err-one-clause-read g c =
+pub returns-in_err-one : goal.returns-in_err-one
+returns-in_err-one g c =
     let old = c.args.store.now in
     let mid = c.loop-id.store in
     let end = c.held_trade.new.store in
     let p = err_from_is_err_and c.from_residual-in_err-one.result c.from_residual-in_err-one.ensures.1 in
-    rw p.1 (none_read g.S.Store old end p.0 _ (both_change_nothing g.S.Store old mid end _ _ _ _ c.loop-id.invariant c.in_err-one.ensures.read))
+    rw p.1 (none_read g.S.Store old end p.0 _ (both_change_nothing g.S.Store old mid end _ _ _ _ c.loop-id.invariant c.in_err-one.ensures))
 
-pub returns-in_err-push_trade-clause-read : goal.returns-in_err-push_trade-clause-read
-returns-in_err-push_trade-clause-read g c =
+pub returns-in_err-push_trade : goal.returns-in_err-push_trade
+returns-in_err-push_trade g c =
     let old = c.args.store.now in
     let mid = c.loop-id.store in
     let end = c.held_trade.new.store in
     let p = err_from_is_err_and c.from_residual-in_err-push_trade.result c.from_residual-in_err-push_trade.ensures.1 in
-    rw p.1 (none_read g.S.Store old end p.0 _ (both_change_nothing g.S.Store old mid end _ _ _ _ c.loop-id.invariant c.in_ok-one.ensures.read))
+    rw p.1 (none_read g.S.Store old end p.0 _ (both_change_nothing g.S.Store old mid end _ _ _ _ c.loop-id.invariant c.in_ok-one.ensures))

@@ -1,6 +1,6 @@
 use Rattle.std.proofs.Common.{◌≡◌, Ok, Some, map, take}
 use Rattle.std.specs.Prelude.{flat_map, option_to_list}
-use Rattle.brk_money.specs.declared.fault.Fault.{Fault}
+use Rattle.brk_money.specs.declared.fault.CallFault.{CallFault}
 use Rattle.brk_ref.specs.Rows.{abstract_trade_row}
 use Rattle.brk_model.specs.Joins.{trade_row_with_id}
 use Rattle.brk_store_transactions.specs.Holds.{ReadPost}
@@ -10,7 +10,7 @@ use Rattle.brk_explain_reads.proofs.ById.{held_ids}
 use Rattle.brk_explain_reads.proofs.holding_trades.held_trades.Given as goal
 
 abbrev pub invariant-loop-id : goal.invariant-loop-id
-invariant-loop-id g l = ReadPost {V = Unit {0}} {E = Fault} g.S.Store l.fn.store l.store (Ok tt)
+invariant-loop-id g l = ReadPost {V = Unit {0}} {E = CallFault} g.S.Store l.fn.store l.store (Ok tt)
     (λ _ t. (l.id-items ≡ held_ids t l.fn.account l.fn.symbol)
     × (map (λ r. Some (abstract_trade_row r)) l.held.done.items ≡ map (trade_row_with_id t) (take l.id-index l.id-items))
     × (map abstract_lot_details l.held.lots.items ≡ flat_map (λ id. option_to_list (lot_opened_by_trade t id)) (take l.id-index l.id-items)))

@@ -2,7 +2,7 @@ use Rattle.std.proofs.Common.{◌≡◌, ◌==◌, ℕ, Err, None, Ok, Option, R
 use Rattle.std.specs.Prelude.{bytes_eq}
 use Rattle.std.proofs.lemmas.Result.{err_from_is_err_and}
 use Rattle.brk_money.specs.Spelling.{Text}
-use Rattle.brk_money.specs.declared.fault.Fault.{Fault}
+use Rattle.brk_money.specs.declared.fault.CallFault.{CallFault}
 use Rattle.brk_money.specs.declared.refusal.Refusal.{Refusal}
 use Rattle.brk_money.specs.declared.refusal.Refusal.TheVariants.{NoAccount, NoSecurity}
 use Rattle.brk_model.specs.Tables.{AccountRow, SecurityRow, Tables}
@@ -29,22 +29,22 @@ IsSecurityOf symbol o t = option_map abstract_security_row o ≡ find (λ (r : S
 abbrev AreParties : ℕ → Text → row.AccountRow → security.Security → Tables → Type 0
 AreParties account symbol a s t = IsRowOf account (Some a) t × IsSecurityOf symbol (Some s) t
 
-pub returns-in_default-clause-read : goal.returns-in_default-clause-read
-returns-in_default-clause-read g c =
+pub returns-in_default : goal.returns-in_default
+returns-in_default g c =
     retold g.S.Store c.args.store.now c.account.new.self {V = Option row.AccountRow} {X = Result HoldingDetails Refusal} None (Err NoAccount)
     (IsRowOf c.args.account) (AreDetailsOfHolding c.args.account c.args.symbol.now) (λ t e. inl (sym e, refl))
     (rw c.in_default.is at c.in_ok-row.ensures.read)
 
-pub returns-in_default-2-clause-read : goal.returns-in_default-2-clause-read
-returns-in_default-2-clause-read g c =
+pub returns-in_default-2 : goal.returns-in_default-2
+returns-in_default-2 g c =
     let row = c.in-Some.row in
-    read_with g.S.Store c.args.store.now c.account.new.self c.security.new.self {W = Option security.Security} {X = Result HoldingDetails Refusal} {H = Fault} (Some row) None (Err NoSecurity)
+    read_with g.S.Store c.args.store.now c.account.new.self c.security.new.self {W = Option security.Security} {X = Result HoldingDetails Refusal} {H = CallFault} (Some row) None (Err NoSecurity)
     (IsRowOf c.args.account) (IsSecurityOf c.args.symbol.now) (AreDetailsOfHolding c.args.account c.args.symbol.now)
     (λ t a s. inr (abstract_account_row row, sym a, sym s, refl))
     (rw c.in-Some.is at c.in_ok-row.ensures.read) (rw c.in_default-2.is at c.in_ok-security.ensures.read)
 
-pub returns-clause-read : goal.returns-clause-read
-returns-clause-read g c =
+pub returns : goal.returns
+returns g c =
     let old = c.args.store.now in
     let account = c.args.account in
     let symbol = c.args.symbol.now in
@@ -52,24 +52,24 @@ returns-clause-read g c =
     let security = c.in-Some-2.security in
     let held = c.in_ok-held.held in
     let now = c.in_ok-now.now in
-    read_with g.S.Store old c.held_trades.new.store c.quantity_now.new.store {H = Fault} held now (Ok c.holding_details_of.result)
+    read_with g.S.Store old c.held_trades.new.store c.quantity_now.new.store {H = CallFault} held now (Ok c.holding_details_of.result)
     (λ held (t : Tables). AreParties account symbol row security t × AreTradesAndLotsOfHolding t account symbol held)
     (λ now (t : Tables). AreQuantityAndPrice t account symbol now)
     (AreDetailsOfHolding account symbol)
     (λ t k e. subst (λ (s : HoldingDetails). AreDetailsOfHolding account symbol (Ok s) t) (sym c.holding_details_of.ensures) (sym k.0.0, sym k.0.1, k.1.0, k.1.1, e.0, e.1))
-    (read_with g.S.Store old c.security.new.self c.held_trades.new.store {H = Fault} (Some security) held held
+    (read_with g.S.Store old c.security.new.self c.held_trades.new.store {H = CallFault} (Some security) held held
     (λ o (t : Tables). AreParties account symbol row security t) (λ held (t : Tables). AreTradesAndLotsOfHolding t account symbol held)
     (λ held (t : Tables). AreParties account symbol row security t × AreTradesAndLotsOfHolding t account symbol held)
     (λ t p k. (p, k))
-    (read_with g.S.Store old c.account.new.self c.security.new.self {H = Fault} (Some row) (Some security) (Some security)
+    (read_with g.S.Store old c.account.new.self c.security.new.self {H = CallFault} (Some row) (Some security) (Some security)
     (IsRowOf account) (IsSecurityOf symbol) (λ o (t : Tables). AreParties account symbol row security t)
     (λ t a s. (a, s))
     (rw c.in-Some.is at c.in_ok-row.ensures.read) (rw c.in-Some-2.is at c.in_ok-security.ensures.read))
-    c.in_ok-held.ensures.read)
-    c.in_ok-now.ensures.read
+    c.in_ok-held.ensures)
+    c.in_ok-now.ensures
 
-pub returns-in_err-now-clause-read : goal.returns-in_err-now-clause-read
-returns-in_err-now-clause-read g c =
+pub returns-in_err-now : goal.returns-in_err-now
+returns-in_err-now g c =
     let old = c.args.store.now in
     let account = c.args.account in
     let symbol = c.args.symbol.now in
@@ -82,27 +82,27 @@ returns-in_err-now-clause-read g c =
     (λ held (t : Tables). AreParties account symbol row security t × AreTradesAndLotsOfHolding t account symbol held)
     (λ now (t : Tables). AreQuantityAndPrice t account symbol now)
     (AreDetailsOfHolding account symbol)
-    (read_with g.S.Store old c.security.new.self c.held_trades.new.store {H = Fault} (Some security) held held
+    (read_with g.S.Store old c.security.new.self c.held_trades.new.store {H = CallFault} (Some security) held held
     (λ o (t : Tables). AreParties account symbol row security t) (λ held (t : Tables). AreTradesAndLotsOfHolding t account symbol held)
     (λ held (t : Tables). AreParties account symbol row security t × AreTradesAndLotsOfHolding t account symbol held)
     (λ t p k. (p, k))
-    (read_with g.S.Store old c.account.new.self c.security.new.self {H = Fault} (Some row) (Some security) (Some security)
+    (read_with g.S.Store old c.account.new.self c.security.new.self {H = CallFault} (Some row) (Some security) (Some security)
     (IsRowOf account) (IsSecurityOf symbol) (λ o (t : Tables). AreParties account symbol row security t)
     (λ t a s. (a, s))
     (rw c.in-Some.is at c.in_ok-row.ensures.read) (rw c.in-Some-2.is at c.in_ok-security.ensures.read))
-    c.in_ok-held.ensures.read)
-    c.in_err-now.ensures.read)
+    c.in_ok-held.ensures)
+    c.in_err-now.ensures)
 
-pub returns-in_err-security-clause-read : goal.returns-in_err-security-clause-read
-returns-in_err-security-clause-read g c =
+pub returns-in_err-security : goal.returns-in_err-security
+returns-in_err-security g c =
     let old = c.args.store.now in
     let mid = c.account.new.self in
     let end = c.security.new.self in
     let p = err_from_is_err_and c.from_residual-in_err-security.result c.from_residual-in_err-security.ensures.1 in
     rw p.1 (none_read g.S.Store old end p.0 _ (both_change_nothing g.S.Store old mid end _ _ _ _ c.in_ok-row.ensures.read c.in_err-security.ensures.read))
 
-pub returns-in_err-held-clause-read : goal.returns-in_err-held-clause-read
-returns-in_err-held-clause-read g c =
+pub returns-in_err-held : goal.returns-in_err-held
+returns-in_err-held g c =
     let old = c.args.store.now in
     let mid = c.account.new.self in
     let late = c.security.new.self in
@@ -111,4 +111,4 @@ returns-in_err-held-clause-read g c =
     rw p.1
     (none_read g.S.Store old end p.0 _
     (joined_reads_change_nothing old late end (both_change_nothing g.S.Store old mid late _ _ _ _ c.in_ok-row.ensures.read c.in_ok-security.ensures.read)
-    (single_read_changes_nothing late end _ _ c.in_err-held.ensures.read)))
+    (single_read_changes_nothing late end _ _ c.in_err-held.ensures)))

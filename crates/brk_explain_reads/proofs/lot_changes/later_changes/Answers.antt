@@ -12,10 +12,10 @@ pub loop-change-preserved : goal.loop-change-preserved
 loop-change-preserved c =
     let later = λ (h : HoldingHistoryRow). not (h.trade == c.args.lot) in
     let change = c.change-item.result in
-    c.in_ok-push_later.ensures.added ∙ ap (λ hs. hs ++ filter later (abstract_lot_change_row change ∷ [])) c.loop-change.invariant
+    c.in_ok-push_later.ensures ∙ ap (λ hs. hs ++ filter later (abstract_lot_change_row change ∷ [])) c.loop-change.invariant
     ∙ last_more abstract_lot_change_row later c.args.changes.now c.loop-change.change-index change c.loop-change-test.true c.change-item.is
 
-pub returns-clause-later : goal.returns-clause-later
-returns-clause-later c =
+pub returns : goal.returns
+returns c =
     c.loop-change.invariant
     ∙ ap (λ hs. filter (λ (h : HoldingHistoryRow). not (h.trade == c.args.lot)) (map abstract_lot_change_row hs)) (take_all c.loop-change.change-index c.args.changes.now c.loop-change-test.false)

@@ -8,12 +8,12 @@ use Rattle.brk_explain_reads.specs.declared.lot_changes.OpeningAndLaterChanges.{
 use Rattle.brk_explain_reads.proofs.Changes.{turn_known}
 use Rattle.brk_explain_reads.proofs.lot_changes.read_changes.Goals as goal
 
-pub returns-clause-read : goal.returns-clause-read
-returns-clause-read g c =
+pub returns : goal.returns
+returns g c =
     let lot = c.args.lot in
     let all = c.in_ok-all.all in
     let told : OpeningAndLaterChanges = record { opening = all.opening; changes_by_others = c.in_ok-changes_by_others.changes_by_others } in
     retold g.S.Store c.args.store.now c.read_unsorted.new.store all told
     (λ all (t : Tables). AreLotChangesByTradeId t lot all) (λ all (t : Tables). AreLotChangesByCompletion t lot all)
-    (λ t k. (k.0, c.in_ok-changes_by_others.ensures.order ∙ ap (sort_by_key (λ (x : LotChange). x.stamp)) k.1 ∙ turn_known t lot))
-    c.in_ok-all.ensures.read
+    (λ t k. (k.0, c.in_ok-changes_by_others.ensures ∙ ap (sort_by_key (λ (x : LotChange). x.stamp)) k.1 ∙ turn_known t lot))
+    c.in_ok-all.ensures

@@ -9,8 +9,8 @@ use Rattle.brk_explain_rows.specs.Details.{abstract_priced_lot_change}
 use Rattle.brk_explain_reads.proofs.Changes.{step_known}
 use Rattle.brk_explain_reads.proofs.lot_changes.read_priced.Goals as goal
 
-pub returns-clause-read : goal.returns-clause-read
-returns-clause-read g c =
+pub returns : goal.returns
+returns g c =
     let change = c.args.change.now in
     let trade = c.in_ok-trade.trade in
     let price = c.in-Some.price in

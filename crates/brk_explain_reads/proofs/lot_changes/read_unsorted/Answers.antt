@@ -1,6 +1,6 @@
 use Rattle.std.proofs.Common.{◌≡◌, ◌==◌, ◌∙◌, ◌+◌, ◌++◌, ◌∷◌, [], ℕ, List, ap, filter, find, map, not, take}
 use Rattle.std.proofs.lemmas.List.{take_all}
-use Rattle.brk_money.specs.declared.fault.Fault.{Fault}
+use Rattle.brk_money.specs.declared.fault.CallFault.{CallFault}
 use Rattle.brk_ref.specs.Rows as rows
 use Rattle.brk_ref.specs.declared.lot_change.LotChange.{LotChange}
 use Rattle.brk_model.specs.Tables.{HoldingHistoryRow, Tables}
@@ -41,7 +41,7 @@ loop-change-preserved g c =
     let before = c.loop-change.changes_by_others.items in
     let priced_change = c.in_ok-priced_change.priced_change in
     rw c.in_ok-push.ensures.items
-    (read_with g.S.Store c.args.store.now c.loop-change.store c.read_priced.new.store {H = Fault} tt priced_change tt
+    (read_with g.S.Store c.args.store.now c.loop-change.store c.read_priced.new.store {H = CallFault} tt priced_change tt
     (λ _. FirstChanges c.args.lot changes later before i)
     (λ priced_change (t : Tables). abstract_priced_lot_change priced_change ≡ recorded_lot_change t (rows.abstract_lot_change_row change))
     (λ _. FirstChanges c.args.lot changes later (before ++ priced_change ∷ []) (i + 1))
@@ -50,10 +50,10 @@ loop-change-preserved g c =
       one_more abstract_priced_lot_change (λ h. recorded_lot_change t (rows.abstract_lot_change_row h)) before later i priced_change change
           c.loop-change-test.true c.change-item.is e p.1,
     ))
-    c.loop-change.invariant c.in_ok-priced_change.ensures.read)
+    c.loop-change.invariant c.in_ok-priced_change.ensures)
 
-pub returns-clause-read : goal.returns-clause-read
-returns-clause-read g c =
+pub returns : goal.returns
+returns g c =
     let changes = c.in_ok-changes.changes.items in
     let later = c.deref-change-items.result.now in
     let changes_by_others = c.loop-change.changes_by_others in
@@ -63,24 +63,24 @@ returns-clause-read g c =
     (λ _. FirstChanges c.args.lot changes later changes_by_others.items i)
     (λ all (t : Tables). AreLotChangesByTradeId t c.args.lot all)
     (λ t p. steps_known t c.args.lot changes later all p.0
-    (ap (map rows.abstract_lot_change_row) c.deref-change-items.ensures.value ∙ c.in_ok-later.ensures.later
+    (ap (map rows.abstract_lot_change_row) c.deref-change-items.ensures.value ∙ c.in_ok-later.ensures
     ∙ ap (λ hs. filter (λ (r : HoldingHistoryRow). not (r.trade == c.args.lot)) (map rows.abstract_lot_change_row hs)) c.deref-2.ensures.value)
     (c.opening_of_lot-opening.ensures ∙ ap (λ hs. find (λ (r : HoldingHistoryRow). r.trade == c.args.lot) (map rows.abstract_lot_change_row hs)) c.deref.ensures.value)
     (p.1 ∙ ap (map (λ h. recorded_lot_change t (rows.abstract_lot_change_row h))) (take_all i later c.loop-change-test.false)))
     c.loop-change.invariant
 
-pub returns-in_err-priced_change-clause-read : goal.returns-in_err-priced_change-clause-read
-returns-in_err-priced_change-clause-read g c =
+pub returns-in_err-priced_change : goal.returns-in_err-priced_change
+returns-in_err-priced_change g c =
     let old = c.args.store.now in
     let mid = c.loop-change.store in
     let end = c.read_priced.new.store in
     let p = err_from_is_err_and c.from_residual-in_err-priced_change.result c.from_residual-in_err-priced_change.ensures.1 in
-    rw p.1 (none_read g.S.Store old end p.0 _ (both_change_nothing g.S.Store old mid end _ _ _ _ c.loop-change.invariant c.in_err-priced_change.ensures.read))
+    rw p.1 (none_read g.S.Store old end p.0 _ (both_change_nothing g.S.Store old mid end _ _ _ _ c.loop-change.invariant c.in_err-priced_change.ensures))
 
-pub returns-in_err-push-clause-read : goal.returns-in_err-push-clause-read
-returns-in_err-push-clause-read g c =
+pub returns-in_err-push : goal.returns-in_err-push
+returns-in_err-push g c =
     let old = c.args.store.now in
     let mid = c.loop-change.store in
     let end = c.read_priced.new.store in
     let p = err_from_is_err_and c.from_residual-in_err-push.result c.from_residual-in_err-push.ensures.1 in
-    rw p.1 (none_read g.S.Store old end p.0 _ (both_change_nothing g.S.Store old mid end _ _ _ _ c.loop-change.invariant c.in_ok-priced_change.ensures.read))
+    rw p.1 (none_read g.S.Store old end p.0 _ (both_change_nothing g.S.Store old mid end _ _ _ _ c.loop-change.invariant c.in_ok-priced_change.ensures))

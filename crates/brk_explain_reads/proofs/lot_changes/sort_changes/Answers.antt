@@ -6,7 +6,7 @@ use Rattle.brk_explain_rows.specs.declared.holding_details.PricedLotChange as ro
 use Rattle.brk_explain_reads.proofs.Sorted.{map_sorted}
 use Rattle.brk_explain_reads.proofs.lot_changes.sort_changes.Goals as goal
 
-pub returns-clause-order : goal.returns-clause-order
-returns-clause-order c =
-    ap (map abstract_priced_lot_change) c.in_ok-sorted.ensures.order
+pub returns : goal.returns
+returns c =
+    ap (map abstract_priced_lot_change) c.in_ok-sorted.ensures
     ∙ sym (map_sorted (λ (a b : row.PricedLotChange). nat_lt a.stamp b.stamp) (λ (a b : LotChange). nat_lt a.stamp b.stamp) abstract_priced_lot_change c.args.changes_by_others.items (λ a b. refl))

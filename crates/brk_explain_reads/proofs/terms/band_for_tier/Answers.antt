@@ -10,8 +10,8 @@ use Rattle.brk_model_explain.specs.Trades.{band_for_tier_and_exchange}
 use Rattle.brk_explain_reads.proofs.TermParts.{band_known}
 use Rattle.brk_explain_reads.proofs.terms.band_for_tier.Goals as goal
 
-pub returns-clause-read : goal.returns-clause-read
-returns-clause-read g c =
+pub returns : goal.returns
+returns g c =
     let order = c.args.order.now in
     let u = abstract_trade_row order.trade in
     let bands = c.in_ok-bands.bands in

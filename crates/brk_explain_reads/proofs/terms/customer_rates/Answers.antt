@@ -1,6 +1,6 @@
 use Rattle.std.proofs.Common.{◌≡◌, ◌==◌, ◌∙◌, ◌+◌, ◌++◌, ◌∷◌, [], ℕ, List, Option, Some, ap, filter, find, map, sym, take}
 use Rattle.std.proofs.lemmas.List.{take_all}
-use Rattle.brk_money.specs.declared.fault.Fault.{Fault}
+use Rattle.brk_money.specs.declared.fault.CallFault.{CallFault}
 use Rattle.brk_model.specs.Records.{CustomerTax, TaxRate}
 use Rattle.brk_model.specs.Tables.{Tables}
 use Rattle.brk_ref.specs.Records.{abstract_customer_tax, abstract_tax_rate}
@@ -41,15 +41,15 @@ loop-row-preserved g c =
     let before = c.loop-row.rates.items in
     let rate = c.in_ok-rate.rate in
     rw c.in_ok-push.ensures.items
-    (read_with g.S.Store c.args.store.now c.loop-row.store c.require_tax.new.store {H = Fault} tt rate tt
+    (read_with g.S.Store c.args.store.now c.loop-row.store c.require_tax.new.store {H = CallFault} tt rate tt
     (λ _. FirstRates c.args.customer rows before i)
     (λ rate (t : Tables). rate_of t (abstract_customer_tax row) ≡ Some (abstract_tax_rate rate))
     (λ _. FirstRates c.args.customer rows (before ++ rate ∷ []) (i + 1))
     (λ t p e. (p.0, one_more (λ rate. Some (abstract_tax_rate rate)) (λ x. rate_of t (abstract_customer_tax x)) before rows i rate row c.loop-row-test.true c.row-item.is (sym e) p.1))
     c.loop-row.invariant c.in_ok-rate.ensures.read)
 
-pub returns-clause-read : goal.returns-clause-read
-returns-clause-read g c =
+pub returns : goal.returns
+returns g c =
     let rows = c.deref-row-items.result.now in
     let i = c.loop-row.row-index in
     let rates = c.loop-row.rates in
@@ -61,16 +61,16 @@ returns-clause-read g c =
     ∙ sym (map_map (rate_of t) abstract_customer_tax rows) ∙ ap (map (rate_of t)) p.0))
     c.loop-row.invariant
 
-pub returns-in_err-rate-clause-read : goal.returns-in_err-rate-clause-read
-returns-in_err-rate-clause-read g c =
+pub returns-in_err-rate : goal.returns-in_err-rate
+returns-in_err-rate g c =
     let old = c.args.store.now in
     let mid = c.loop-row.store in
     let end = c.require_tax.new.store in
     let p = err_from_is_err_and c.from_residual-in_err-rate.result c.from_residual-in_err-rate.ensures.1 in
     rw p.1 (none_read g.S.Store old end p.0 _ (both_change_nothing g.S.Store old mid end _ _ _ _ c.loop-row.invariant c.in_err-rate.ensures.read))
 
-pub returns-in_err-push-clause-read : goal.returns-in_err-push-clause-read
-returns-in_err-push-clause-read g c =
+pub returns-in_err-push : goal.returns-in_err-push
+returns-in_err-push g c =
     let old = c.args.store.now in
     let mid = c.loop-row.store in
     let end = c.require_tax.new.store in

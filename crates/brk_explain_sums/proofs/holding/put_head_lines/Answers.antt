@@ -6,9 +6,9 @@ use Rattle.brk_report_lines.specs.Written.{line_with_line_feed}
 use Rattle.brk_explain_columns.proofs.Chains.{last, more}
 use Rattle.brk_explain_sums.proofs.holding.put_head_lines.Goals as goal
 
-pub returns-clause-ok : goal.returns-clause-ok
+pub returns : goal.returns
 unfolding holding_header_lines
-returns-clause-ok c =
+returns c =
     let id = c.args.row.now.account.id in
     let head = codes "#      completed                       trade      shares      price            value        held type" in
     let symbol = c.as_bytes.ensures.value ∙ c.as_str.ensures in
@@ -25,7 +25,7 @@ returns-clause-ok c =
     let a4 = line_with_line_feed head in
     let r3 = a4 ++ [] in
     let r2 = a3 ++ r3 in
-    more o a1 (a2 ++ r2) x1 x4 c.in_ok-put_head_title.ensures.ok
-    (more x1 a2 r2 x2 x4 c.in_ok-put_text_fact.ensures.ok
-    (more x2 a3 r3 x3 x4 c.in_ok-put_text_fact-2.ensures.ok (last x3 a4 x4 c.in_ok-put_text_line.ensures.ok)))
+    more o a1 (a2 ++ r2) x1 x4 c.in_ok-put_head_title.ensures
+    (more x1 a2 r2 x2 x4 c.in_ok-put_text_fact.ensures
+    (more x2 a3 r3 x3 x4 c.in_ok-put_text_fact-2.ensures (last x3 a4 x4 c.in_ok-put_text_line.ensures)))
     ∙ (λ i. o ++ text_of_lines (holding_title id (symbol i) ∷ labeled_text (codes "Account name") (account i) ∷ labeled_text (codes "Security") (security i) ∷ head ∷ []))

@@ -24,9 +24,9 @@ five_parts top rows head lots end =
     ∙ ap (λ (x : Text). x ++ e) (flat_map-append line_with_line_feed (top ++ rows) (head ∷ lots) ∙ ap (λ (x : Text). x ++ (h ++ l)) (flat_map-append line_with_line_feed top rows))
     ∙ append_assoc (t ++ r) (h ++ l) e ∙ append_assoc t r ((h ++ l) ++ e) ∙ ap (λ (x : Text). t ++ (r ++ x)) (append_assoc h l e))
 
-pub returns-clause-ok : goal.returns-clause-ok
+pub returns : goal.returns
 unfolding holding_lines_from_trades_and_lots
-returns-clause-ok c =
+returns c =
     let details = c.args.details.now in
     let top = holding_header_lines (abstract_account_row details.account) (abstract_security_row details.security) in
     let done = c.as_slice-done.result.now in
@@ -48,10 +48,10 @@ returns-clause-ok c =
     let a5 = text_of_lines (holding_total_lines (map abstract_trade_row done) (map abstract_lot_details lots) shares details.price) in
     let r4 = a4 ++ a5 in
     let r3 = a3 ++ r4 in
-    more o a1 (a2 ++ r3) x1 x5 c.in_ok-put_head_lines.ensures.ok
-    (more x1 a2 r3 x2 x5 c.in_ok-put_held_trades.ensures.ok
-    (more x2 a3 r4 x3 x5 c.in_ok-put_lot_header.ensures.ok
-    (more x3 a4 a5 x4 x5 c.in_ok-put_histories.ensures.ok c.in_ok-put_holding_end.ensures.ok)))
+    more o a1 (a2 ++ r3) x1 x5 c.in_ok-put_head_lines.ensures
+    (more x1 a2 r3 x2 x5 c.in_ok-put_held_trades.ensures
+    (more x2 a3 r4 x3 x5 c.in_ok-put_lot_header.ensures
+    (more x3 a4 a5 x4 x5 c.in_ok-put_histories.ensures c.in_ok-put_holding_end.ensures)))
     ∙ (λ i.
     o
     ++ (a1

@@ -18,5 +18,5 @@ loop-lot-preserved c =
     let i = c.loop-lot.lot-index in
     let lot = c.lot-item.result in
     let some : c.change_count.result ≡ length (abstract_lot_details lot).changes = c.change_count.ensures ∙ ap (λ xs. length (map abstract_priced_lot_change xs)) c.deref.ensures.value in
-    c.in_ok-count.ensures.sum ∙ (λ k. c.loop-lot.invariant k + some k) ∙ sym (count_more (map abstract_lot_details (take i lots)) (abstract_lot_details lot))
+    c.in_ok-count.ensures ∙ (λ k. c.loop-lot.invariant k + some k) ∙ sym (count_more (map abstract_lot_details (take i lots)) (abstract_lot_details lot))
     ∙ ap count_of_lot_changes (sym (map_one_more abstract_lot_details lots i lot c.lot-item.is c.loop-lot-test.true))

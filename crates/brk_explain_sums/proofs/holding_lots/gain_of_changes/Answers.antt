@@ -15,6 +15,6 @@ loop-change-preserved c =
     let i = c.loop-change.change-index in
     let change = c.change-item.result in
     let gain_of = realised_gain_of_change c.args.price in
-    c.in_ok-total.ensures.sum ∙ (λ k. c.loop-change.invariant k +ℤ c.in_ok-gain.ensures.gain k)
+    c.in_ok-total.ensures ∙ (λ k. c.loop-change.invariant k +ℤ c.in_ok-gain.ensures k)
     ∙ sym (total_by-more gain_of (map abstract_priced_lot_change (take i changes)) (abstract_priced_lot_change change))
     ∙ ap (total_by gain_of) (sym (map_one_more abstract_priced_lot_change changes i change c.change-item.is c.loop-change-test.true))

@@ -13,6 +13,6 @@ loop-lot-preserved c =
     let lots = c.args.lots.now in
     let i = c.loop-lot.lot-index in
     let lot = c.lot-item.result in
-    c.in_ok-total.ensures.sum ∙ (λ k. c.loop-lot.invariant k +ℤ c.in_ok-gain.ensures.gain k)
+    c.in_ok-total.ensures ∙ (λ k. c.loop-lot.invariant k +ℤ c.in_ok-gain.ensures k)
     ∙ sym (total_by-more holdings.realised_gain_of_lot (map abstract_lot_details (take i lots)) (abstract_lot_details lot))
     ∙ ap holdings.realised_gain_of_lots (sym (map_one_more abstract_lot_details lots i lot c.lot-item.is c.loop-lot-test.true))

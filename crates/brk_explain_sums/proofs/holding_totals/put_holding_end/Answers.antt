@@ -16,9 +16,9 @@ three_parts a b c =
     sym (append_assoc (text_of_lines a) (text_of_lines b) (text_of_lines c))
     ∙ ap (λ (l : Text). l ++ text_of_lines c) (sym (flat_map-append line_with_line_feed a b)) ∙ sym (flat_map-append line_with_line_feed (a ++ b) c)
 
-pub returns-clause-ok : goal.returns-clause-ok
+pub returns : goal.returns
 unfolding holding_total_lines
-returns-clause-ok c =
+returns c =
     let done = c.args.done.now in
     let lots = c.args.lots.now in
     let us = map abstract_trade_row done in
@@ -26,12 +26,12 @@ returns-clause-ok c =
     let shares = to_z w64 (of_z w64 c.args.shares) in
     let same : shares ≡ c.args.shares = search rules in
     let price = c.args.price in
-    let bought = c.in_ok-bought.ensures.total in
-    let sold = c.in_ok-sold.ensures.total in
-    let gain = c.in_ok-gain.ensures.total in
-    let cost = c.in_ok-cost.ensures.total in
-    let some = c.in_ok-open_lots.ensures.count in
-    let changes = c.in_ok-changes.ensures.count in
+    let bought = c.in_ok-bought.ensures in
+    let sold = c.in_ok-sold.ensures in
+    let gain = c.in_ok-gain.ensures in
+    let cost = c.in_ok-cost.ensures in
+    let some = c.in_ok-open_lots.ensures in
+    let changes = c.in_ok-changes.ensures in
     let trades : length done ≡ length us = rw length-map refl in
     let all : length lots ≡ length ls = rw length-map refl in
     let o = c.args.out.now.items in
@@ -41,8 +41,8 @@ returns-clause-ok c =
     let a2 = text_of_lines (holding_value_lines shares price c.in_ok-cost.cost) in
     let x3 = c.put_lot_counts.new.out.items in
     let a3 = line_with_line_feed (holding_counts_line (length done) (length lots) c.in_ok-open_lots.open_lots c.in_ok-changes.changes) in
-    more o a1 (a2 ++ (a3 ++ [])) x1 x3 c.in_ok-put_trading.ensures.ok
-    (more x1 a2 (a3 ++ []) x2 x3 c.in_ok-put_worth.ensures.ok (last x2 a3 x3 c.in_ok-put_lot_counts.ensures.ok))
+    more o a1 (a2 ++ (a3 ++ [])) x1 x3 c.in_ok-put_trading.ensures
+    (more x1 a2 (a3 ++ []) x2 x3 c.in_ok-put_worth.ensures (last x2 a3 x3 c.in_ok-put_lot_counts.ensures))
     ∙ (λ i.
     o
     ++ (text_of_lines (purchase_sale_gain_and_cost_lines (bought i) (sold i) (gain i) (cost i))

@@ -18,7 +18,7 @@ loop-lot-preserved c =
     let o = c.args.out.now.items in
     let first = flat_map lot_history_lines ls in
     let next = lot_history_lines (abstract_lot_details lot) in
-    more o (text_of_lines first) (text_of_lines next) c.loop-lot.out.items c.put_lot_history.new.out.items c.loop-lot.invariant c.in_ok-put_lot_history.ensures.ok
+    more o (text_of_lines first) (text_of_lines next) c.loop-lot.out.items c.put_lot_history.new.out.items c.loop-lot.invariant c.in_ok-put_lot_history.ensures
     ∙ ap (λ (t : Text). o ++ t) (sym (flat_map-append line_with_line_feed first next))
     ∙ ap (λ (all : List Text). o ++ text_of_lines all)
     (ap (λ (l : List Text). first ++ l) (sym (append-nil next)) ∙ sym (flat_map-append lot_history_lines ls (abstract_lot_details lot ∷ []))

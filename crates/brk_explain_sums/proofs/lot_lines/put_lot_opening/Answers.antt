@@ -1,29 +1,30 @@
 use Rattle.brk_model_explain.specs.Texts.{timestamp_text, value_column, leading_row_columns}
-use Rattle.brk_explain_columns.proofs.Chains.{more, on_ok}
+use Rattle.brk_explain_columns.proofs.Chains.{more}
 use Rattle.std.specs.Int.{w128}
 use Rattle.std.proofs.Common.{◌≡◌, ◌∙◌, ◌++◌, ◌∷◌, [], ◌*ℤ◌, codes, pos, of_z, to_z, w64, rules}
 use Rattle.brk_model_explain.specs.HoldingLines.{lot_opening_line}
 use Rattle.brk_explain_sums.proofs.lot_lines.put_lot_opening.Goals as goal
 
-pub returns-clause-ok : goal.returns-clause-ok
+pub returns : goal.returns
 unfolding lot_opening_line
-returns-clause-ok c =
+returns c =
     let lot = c.args.lot.now in
-    let price = c.in_ok-price.ensures.price in
+    let price = c.in_ok-price.ensures in
     let given : to_z w128 (of_z w128 c.from-shares.result) ≡ c.from-shares.result = search rules in
     let opened : to_z w64 (of_z w64 lot.opened) ≡ lot.opened = search rules in
     let shares = given ∙ c.from-shares.ensures ∙ opened in
-    let cost = c.in_ok-cost.ensures.value ∙ (λ i. opened i *ℤ pos (price i)) in
+    let cost = c.in_ok-cost.ensures ∙ (λ i. opened i *ℤ pos (price i)) in
     let o = c.args.out.now.items in
     let x1 = c.put_row_start.new.out.items in
     let t1a = leading_row_columns (codes "Lot") (timestamp_text lot.trade.stamp) lot.trade.id (to_z w128 (of_z w128 c.from-shares.result)) c.in_ok-price.price in
     let s1 = t1a in
-    let h1 = c.in_ok-put_row_start.ensures.ok in
+    let h1 = c.in_ok-put_row_start.ensures in
     let x2 = c.align_value.new.out.items in
     let t2a = value_column c.in_ok-cost.cost in
     let s2 = s1 ++ t2a in
-    let h2 = more o s1 t2a x1 x2 h1 c.in_ok-align_value.ensures.ok in
+    let h2 = more o s1 t2a x1 x2 h1 c.in_ok-align_value.ensures in
     let x3 = c.end_line.new.out.items in
     let t3a = 10 ∷ [] in
-    on_ok {P = x3 ≡ x2 ++ t3a} c.end_line.result c.end_line.ensures.ok (λ h. more o s2 t3a x2 x3 h2 h
-    ∙ (λ i. o ++ ((((leading_row_columns (codes "Lot") (timestamp_text lot.trade.stamp) lot.trade.id (shares i) (price i)) ++ (value_column (cost i))) ++ (10 ∷ [])))))
+    let h : x3 ≡ x2 ++ t3a = c.in_ok-end_line.ensures in
+    more o s2 t3a x2 x3 h2 h
+    ∙ (λ i. o ++ ((((leading_row_columns (codes "Lot") (timestamp_text lot.trade.stamp) lot.trade.id (shares i) (price i)) ++ (value_column (cost i))) ++ (10 ∷ []))))

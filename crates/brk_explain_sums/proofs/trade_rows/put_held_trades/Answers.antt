@@ -25,11 +25,11 @@ loop-row-preserved c =
     let same : held ≡ after = search rules in
     let next = holding_trade_line u held in
     let longer = sym (map_one_more abstract_trade_row done i row c.row-item.is c.loop-row-test.true) in
-    let sum : held ≡ total_after signed_quantity_of_trade (pos 0) us +ℤ signed_quantity_of_trade u = same ∙ c.in_ok-after.ensures.held
+    let sum : held ≡ total_after signed_quantity_of_trade (pos 0) us +ℤ signed_quantity_of_trade u = same ∙ c.in_ok-after.ensures
     ∙ ap (λ (z : ℤ). z +ℤ signed_quantity_of_trade u) c.loop-row.invariant.shares in
     record {
       rows = more o (text_of_lines first) (line_with_line_feed next ++ []) c.loop-row.out.items c.put_held_trade.new.out.items c.loop-row.invariant.rows
-          (last c.loop-row.out.items (line_with_line_feed next) c.put_held_trade.new.out.items c.in_ok-put_held_trade.ensures.ok)
+          (last c.loop-row.out.items (line_with_line_feed next) c.put_held_trade.new.out.items c.in_ok-put_held_trade.ensures)
           ∙ ap (λ (t : Text). o ++ t) (sym (flat_map-append line_with_line_feed first (next ∷ [])))
           ∙ ap (λ (ls : List Text). o ++ text_of_lines ls)
           (ap (λ (z : ℤ). first ++ holding_trade_line u z ∷ []) sum ∙ sym (rows_parts signed_quantity_of_trade holding_trade_line (pos 0) us (u ∷ [])) ∙ ap holding_trade_lines longer);

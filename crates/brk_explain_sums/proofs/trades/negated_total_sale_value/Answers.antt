@@ -17,7 +17,7 @@ loop-row-preserved c =
     let row = c.row-item.result in
     let us = map abstract_trade_row (take i done) in
     let part : c.negative_part.result ≡ cond (int_lt (signed_value_of_trade (abstract_trade_row row)) (pos 0)) (signed_value_of_trade (abstract_trade_row row)) (pos 0) =
-    c.negative_part.ensures ∙ ap (λ (z : ℤ). cond (int_lt z (pos 0)) z (pos 0)) c.in_ok-value.ensures.value in
-    c.in_ok-total.ensures.sum ∙ (λ k. c.loop-row.invariant k +ℤ part k)
+    c.negative_part.ensures ∙ ap (λ (z : ℤ). cond (int_lt z (pos 0)) z (pos 0)) c.in_ok-value.ensures in
+    c.in_ok-total.ensures ∙ (λ k. c.loop-row.invariant k +ℤ part k)
     ∙ sym (picked_more signed_value_of_trade (λ (u : TradeRow). int_lt (signed_value_of_trade u) (pos 0)) us (abstract_trade_row row))
     ∙ ap holdings.negated_total_sale_value (sym (map_one_more abstract_trade_row done i row c.row-item.is c.loop-row-test.true))

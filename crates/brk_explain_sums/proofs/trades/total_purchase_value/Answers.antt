@@ -17,7 +17,7 @@ loop-row-preserved c =
     let row = c.row-item.result in
     let us = map abstract_trade_row (take i done) in
     let part : c.positive_part.result ≡ cond (int_lt (pos 0) (signed_value_of_trade (abstract_trade_row row))) (signed_value_of_trade (abstract_trade_row row)) (pos 0) =
-    c.positive_part.ensures ∙ ap (λ (z : ℤ). cond (int_lt (pos 0) z) z (pos 0)) c.in_ok-value.ensures.value in
-    c.in_ok-total.ensures.sum ∙ (λ k. c.loop-row.invariant k +ℤ part k)
+    c.positive_part.ensures ∙ ap (λ (z : ℤ). cond (int_lt (pos 0) z) z (pos 0)) c.in_ok-value.ensures in
+    c.in_ok-total.ensures ∙ (λ k. c.loop-row.invariant k +ℤ part k)
     ∙ sym (picked_more signed_value_of_trade (λ (u : TradeRow). int_lt (pos 0) (signed_value_of_trade u)) us (abstract_trade_row row))
     ∙ ap holdings.total_purchase_value (sym (map_one_more abstract_trade_row done i row c.row-item.is c.loop-row-test.true))

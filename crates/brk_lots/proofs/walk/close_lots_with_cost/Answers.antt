@@ -89,20 +89,6 @@ loop-left-preserved g c =
           (n.0 + 1, subst (λ (l : List Lot). g.L.LotSource.remaining after l) (drop_next n.0 all lot m.0 m.1) m.2);
     }
 
-pub returns-in_err-add-clause-remaining : goal.returns-in_err-add-clause-remaining
-returns-in_err-add-clause-remaining g c ls given =
-    let after = c.next.new.self in
-    let n = c.loop-left.invariant.given (g.met.L.LotSource.faithful_before c.loop-left.source after c.next.ensures.leads given.0) ls given.1 in
-    let m = (rw c.in-Some.is at c.in_ok-lot.ensures.given) given.0 (drop n.0 ls) n.1 in
-    (n.0 + 1, subst (λ (l : List Lot). g.L.LotSource.remaining after l) (drop_next n.0 ls c.in-Some.lot m.0 m.1) m.2)
-
-pub returns-then-are_same_side-clause-remaining : goal.returns-then-are_same_side-clause-remaining
-returns-then-are_same_side-clause-remaining g c ls given =
-    let after = c.next.new.self in
-    let n = c.loop-left.invariant.given (g.met.L.LotSource.faithful_before c.loop-left.source after c.next.ensures.leads given.0) ls given.1 in
-    let m = (rw c.in-Some.is at c.in_ok-lot.ensures.given) given.0 (drop n.0 ls) n.1 in
-    (n.0 + 1, subst (λ (l : List Lot). g.L.LotSource.remaining after l) (drop_next n.0 ls c.in-Some.lot m.0 m.1) m.2)
-
 pub returns-after-loop-left-clause-taken : goal.returns-after-loop-left-clause-taken
 returns-after-loop-left-clause-taken g c =
     let t = c.loop-left.invariant.taken in
@@ -128,3 +114,31 @@ returns-then-are_same_side-clause-taken g c =
           let m = (rw c.in-Some.is at c.in_ok-lot.ensures.given) given.0 b.0 b.1 in
           ended c.args.side c.args.qty c.loop-left.left c.loop-left.cost t.0 ls b.0 (rw m.1 (met_own c.args.side c.loop-left.left lot m.0 o)) b.3 b.4 b.5,
     )
+
+pub returns-in_err-add-clause-source : goal.returns-in_err-add-clause-source
+returns-in_err-add-clause-source g c =
+    let after = c.next.new.self in
+    record {
+      leads = g.met.L.LotSource.transitive c.args.source.now c.loop-left.source after c.loop-left.invariant.leads c.next.ensures.leads;
+      requests = search rules;
+      faulted = search rules;
+      fault = search rules;
+      remaining = λ ls given.
+          let n = c.loop-left.invariant.given (g.met.L.LotSource.faithful_before c.loop-left.source after c.next.ensures.leads given.0) ls given.1 in
+          let m = (rw c.in-Some.is at c.in_ok-lot.ensures.given) given.0 (drop n.0 ls) n.1 in
+          (n.0 + 1, subst (λ (l : List Lot). g.L.LotSource.remaining after l) (drop_next n.0 ls c.in-Some.lot m.0 m.1) m.2);
+    }
+
+pub returns-then-are_same_side-clause-source : goal.returns-then-are_same_side-clause-source
+returns-then-are_same_side-clause-source g c =
+    let after = c.next.new.self in
+    record {
+      leads = g.met.L.LotSource.transitive c.args.source.now c.loop-left.source after c.loop-left.invariant.leads c.next.ensures.leads;
+      requests = search rules;
+      faulted = search rules;
+      fault = search rules;
+      remaining = λ ls given.
+          let n = c.loop-left.invariant.given (g.met.L.LotSource.faithful_before c.loop-left.source after c.next.ensures.leads given.0) ls given.1 in
+          let m = (rw c.in-Some.is at c.in_ok-lot.ensures.given) given.0 (drop n.0 ls) n.1 in
+          (n.0 + 1, subst (λ (l : List Lot). g.L.LotSource.remaining after l) (drop_next n.0 ls c.in-Some.lot m.0 m.1) m.2);
+    }

@@ -5,27 +5,27 @@ use Rattle.brk_model.specs.Forms.{read_acl, read_id, read_name, read_tax_id}
 use Rattle.brk_ref.proofs.Applied.{first_of_five_refused, second_of_five_refused, third_of_five_refused, fourth_of_five_refused, fifth_of_five_refused}
 use Rattle.brk_ref.proofs.permission.parse_permission.Goals as goal
 
-pub returns-in_default-clause-read : goal.returns-in_default-clause-read
-returns-in_default-clause-read c =
+pub returns-in_default : goal.returns-in_default
+returns-in_default c =
     first_of_five_refused _ (read_id c.args.account.now) (read_acl c.args.acl.now) (read_tax_id c.args.tax_id.now) (read_name c.args.last_name.now) (read_name c.args.first_name.now)
     (sym c.in_default.ensures)
 
-pub returns-in_default-2-clause-read : goal.returns-in_default-2-clause-read
-returns-in_default-2-clause-read c =
+pub returns-in_default-2 : goal.returns-in_default-2
+returns-in_default-2 c =
     second_of_five_refused _ (read_id c.args.account.now) (read_acl c.args.acl.now) (read_tax_id c.args.tax_id.now) (read_name c.args.last_name.now) (read_name c.args.first_name.now)
     (sym c.in_ok-acl.ensures.read ∙ ap (λ o. ok_or o BadText) c.in_default-2.is)
 
-pub returns-in_default-3-clause-read : goal.returns-in_default-3-clause-read
-returns-in_default-3-clause-read c =
+pub returns-in_default-3 : goal.returns-in_default-3
+returns-in_default-3 c =
     third_of_five_refused _ (read_id c.args.account.now) (read_acl c.args.acl.now) (read_tax_id c.args.tax_id.now) (read_name c.args.last_name.now) (read_name c.args.first_name.now)
     (sym c.in_ok-tax_id.ensures.read ∙ ap (λ o. ok_or o BadText) c.in_default-3.is)
 
-pub returns-in_default-4-clause-read : goal.returns-in_default-4-clause-read
-returns-in_default-4-clause-read c =
+pub returns-in_default-4 : goal.returns-in_default-4
+returns-in_default-4 c =
     fourth_of_five_refused _ (read_id c.args.account.now) (read_acl c.args.acl.now) (read_tax_id c.args.tax_id.now) (read_name c.args.last_name.now) (read_name c.args.first_name.now)
     (sym c.in_ok-last_name.ensures.read ∙ ap (λ o. ok_or o BadText) c.in_default-4.is)
 
-pub returns-in_default-5-clause-read : goal.returns-in_default-5-clause-read
-returns-in_default-5-clause-read c =
+pub returns-in_default-5 : goal.returns-in_default-5
+returns-in_default-5 c =
     fifth_of_five_refused _ (read_id c.args.account.now) (read_acl c.args.acl.now) (read_tax_id c.args.tax_id.now) (read_name c.args.last_name.now) (read_name c.args.first_name.now)
     (sym c.in_ok-first_name.ensures.read ∙ ap (λ o. ok_or o BadText) c.in_default-5.is)

@@ -9,14 +9,14 @@ use Rattle.brk_ref_orders.specs.Records.{abstract_order}
 use Rattle.brk_ref_orders.proofs.order.parse_trade_order.Goals as goal
 use Rattle.brk_ref_orders.proofs.order.parse_trade_order.Goals.{in_default-via-then-fields-lt10, in_default-via-else-fields-lt10+else-fields-lt11}
 
-pub returns-in_default-clause-read : goal.returns-in_default-clause-read
-returns-in_default-clause-read c =
+pub returns-in_default : goal.returns-in_default
+returns-in_default c =
     elim c.in_default.branch [
       | in_default-via-then-fields-lt10 w ↦ not_order c.args.fields.now (λ e. omega (arith, ltb-true, ltb-false))
       | in_default-via-else-fields-lt10+else-fields-lt11 w ↦ not_order c.args.fields.now (λ e. omega (arith, ltb-true, ltb-false))
     ]
 
-pub returns-clause-read : goal.returns-clause-read
-returns-clause-read c =
+pub returns : goal.returns
+returns c =
     subst (λ (told : List Text). IfOk c.order_of_fields.result (λ read. ParsesAs abstract_order read (read_order told)))
-    (ten_texts c.args.fields.now _ (omega (arith, c.in-len10.len_at_least, c.in-len10.len_below))) c.order_of_fields.ensures.read
+    (ten_texts c.args.fields.now _ (omega (arith, c.in-len10.len_at_least, c.in-len10.len_below))) c.order_of_fields.ensures

@@ -6,5 +6,5 @@ take_replicate zero m h = refl
 take_replicate (suc n) zero h = absurd (omega (arith, h))
 take_replicate (suc n) (suc m) h = ap (λ (l : List ℕ). 32 ∷ l) (take_replicate n m (omega (arith, h)))
 
-pub returns-clause-ok : goal.returns-clause-ok
-returns-clause-ok c = c.in_ok-extend_from_slice.ensures.items ∙ ap (λ (l : List ℕ). c.args.out.now.items ++ l) (take_replicate c.args.count 22 c.requires)
+pub returns : goal.returns
+returns c = c.in_ok-extend_from_slice.ensures.items ∙ ap (λ (l : List ℕ). c.args.out.now.items ++ l) (take_replicate c.args.count 22 c.requires)

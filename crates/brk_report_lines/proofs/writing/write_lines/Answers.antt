@@ -7,11 +7,11 @@ use Rattle.brk_report_lines.proofs.Cut.{cut}
 use Rattle.brk_report_lines.proofs.writing.write_lines.Goals as goal
 
 pub returns-in-Err : goal.returns-in-Err
-returns-in-Err g c = record { written = λ line lines made fails. (rw c.in-Err.is at fails, ([], line, lines, refl, appends_none _)) }
+returns-in-Err g c = record { written = λ line lines made. ([], line, lines, refl, appends_none _) }
 
 pub returns-in-Err-write_all_bytes : goal.returns-in-Err-write_all_bytes
 returns-in-Err-write_all_bytes g c = record {
-  written = λ line lines made fails.
+  written = λ line lines made.
       let bytes : c.as_slice.result.now ≡ text_of_lines (line ∷ lines) = c.as_slice.ensures.value ∙ (rw c.in-Ok.is at made) in
       let part = c.in-Err-write_all_bytes.ensures.err in
       let pieces = cut line lines part.0 in (
@@ -27,7 +27,7 @@ returns-in-Err-write_all_bytes g c = record {
 
 pub returns : goal.returns
 returns g c = record {
-  written = λ line lines made fails.
+  written = λ line lines made.
       let bytes : c.as_slice.result.now ≡ text_of_lines (line ∷ lines) = c.as_slice.ensures.value ∙ (rw c.in-Ok.is at made) in
       rw bytes at c.in-Ok-write_all_bytes.ensures.ok;
 }

@@ -1,6 +1,6 @@
 use Rattle.std.proofs.Common.{◌≡◌, ◌∙◌, Ok, Err, ap, map, subst}
 use Rattle.std.specs.Global.{Vec}
-use Rattle.brk_money.specs.declared.fault.Fault.TheVariants.{Memory}
+use Rattle.brk_money.specs.declared.fault.CallFault.TheVariants.{Memory}
 use Rattle.brk_ref.specs.Rows.{abstract_holding_row}
 use Rattle.brk_ref.specs.declared.holding_row.HoldingRow as row
 use Rattle.brk_store_lots.specs.Ages.{IsIndexOf}

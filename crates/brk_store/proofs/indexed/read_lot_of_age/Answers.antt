@@ -1,6 +1,5 @@
 use Rattle.std.proofs.Common.{◌≡◌, ◌∙◌, ◌==◌, ◌&&◌, Some, ap, find, option_map, refl, rules, true}
 use Rattle.std.specs.Prelude.{bytes_eq}
-use Rattle.brk_money.specs.declared.fault.Fault.TheVariants.{Store}
 use Rattle.brk_ref.specs.Rows.{abstract_holding_row}
 use Rattle.brk_store_lots.specs.Ages.{lot_of_age, value_if}
 use Rattle.brk_model.specs.Tables.{HoldingRow, Tables}
@@ -11,12 +10,12 @@ use Rattle.brk_store.proofs.indexed.read_lot_of_age.Goals as goal
 
 pub returns-in_default-clause-read : goal.returns-in_default-clause-read
 returns-in_default-clause-read g c =
-    none_read g.S.Store c.args.conn.now c.read_lot_by_trade.new.conn Store _
+    none_read g.S.Store c.args.conn.now c.read_lot_by_trade.new.conn _ _
     (single_read_changes_nothing c.args.conn.now c.read_lot_by_trade.new.conn c.read_lot_by_trade.result _ c.read_lot_by_trade.ensures.read)
 
 pub returns-then-not-is_lot_of_position-clause-read : goal.returns-then-not-is_lot_of_position-clause-read
 returns-then-not-is_lot_of_position-clause-read g c =
-    none_read g.S.Store c.args.conn.now c.read_lot_by_trade.new.conn Store _
+    none_read g.S.Store c.args.conn.now c.read_lot_by_trade.new.conn _ _
     (single_read_changes_nothing c.args.conn.now c.read_lot_by_trade.new.conn c.read_lot_by_trade.result _ c.read_lot_by_trade.ensures.read)
 
 pub returns-clause-read : goal.returns-clause-read

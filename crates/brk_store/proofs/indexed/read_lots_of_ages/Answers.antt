@@ -1,6 +1,6 @@
 use Rattle.std.proofs.Common.{◌≡◌, ◌∙◌, ◌+◌, ◌∷◌, ◌++◌, ℕ, [], Ok, Some, ap, arith, drop, map, refl, slice_get, sym, take}
 use Rattle.std.proofs.lemmas.Result.{err_from_is_err_and}
-use Rattle.brk_money.specs.declared.fault.Fault.{Fault}
+use Rattle.brk_money.specs.declared.fault.CallFault.{CallFault}
 use Rattle.brk_ref.specs.Rows.{abstract_holding_row}
 use Rattle.brk_store_lots.specs.Ages.{in_closing_order, lot_of_age}
 use Rattle.brk_model.specs.Tables.{Tables}
@@ -27,7 +27,7 @@ loop-place-preserved g c =
     let this : slice_get es (k + n) ≡ Some age = sym c.age_in_closing_order.ensures ∙ c.in-Some.is in
     let more : take (n + 1) (drop k es) ≡ take n (drop k es) ++ age ∷ [] = one_age es (k + n) age this n k refl in
     record {
-      reads = reads_both g.S.Store c.args.conn.now c.loop-place.conn c.read_lot_of_age.new.conn {H = Fault} tt row tt
+      reads = reads_both g.S.Store c.args.conn.now c.loop-place.conn c.read_lot_of_age.new.conn {H = CallFault} tt row tt
           (λ _ t. map Some (map abstract_holding_row c.loop-place.page.items) ≡ map (f t) (take n (drop k es)))
           (λ r t. Some (abstract_holding_row r) ≡ f t age)
           (λ _ t. map Some (map abstract_holding_row c.push.new.self.items) ≡ map (f t) (take (n + 1) (drop k es)))

@@ -3,7 +3,7 @@ use Rattle.std.proofs.lemmas.List.{take_all}
 use Rattle.std.specs.Global.{Vec}
 use Rattle.std.specs.List.{list_any}
 use Rattle.std.specs.Prelude.{MatchOption, is_none}
-use Rattle.brk_money.specs.declared.fault.Fault.{Fault}
+use Rattle.brk_money.specs.declared.fault.CallFault.{CallFault}
 use Rattle.brk_model.specs.Joins.{trade_row_with_id}
 use Rattle.brk_model.specs.Tables.{Tables, TradeRow}
 use Rattle.brk_ref.specs.Rows.{abstract_trade_row}
@@ -35,37 +35,41 @@ loop-id-preserved g c =
     let ids = c.args.ids.now in
     let i = c.loop-id.id-index in
     let trade = c.in-Some.trade in
-    reads_both g.S.Store c.args.store.now c.loop-id.store c.trade.new.self {H = Fault} tt (Some trade) tt
+    reads_both g.S.Store c.args.store.now c.loop-id.store c.trade.new.self {H = CallFault} tt (Some trade) tt
     (λ _. FirstTrades ids c.loop-id.trades.items i) (IsTradeOf c.id-item.result) (λ _. FirstTrades ids c.push.new.self.items (i + 1))
     (λ t p e. ap (map (λ r. Some (abstract_trade_row r))) c.in_ok-push-in-Some.ensures.items
     ∙ one_more (λ r. Some (abstract_trade_row r)) (trade_row_with_id t) c.loop-id.trades.items ids i trade c.id-item.result c.loop-id-test.true c.id-item.is e p)
     c.loop-id.invariant (one_read g.S.Store c.loop-id.store c.trade.new.self (Ok (Some trade)) (IsTradeOf c.id-item.result) (rw c.in-Some.is at c.in_ok-trade.ensures.read))
 
-pub returns-in-None-clause-read : goal.returns-in-None-clause-read
-returns-in-None-clause-read g c =
+pub returns-in-None : goal.returns-in-None
+returns-in-None g c =
     let ids = c.args.ids.now in
     let i = c.loop-id.id-index in
-    reads_both g.S.Store c.args.store.now c.loop-id.store c.trade.new.self {W = Option row.TradeRow} {X = Option (Vec row.TradeRow)} {H = Fault} tt None None
-    (λ _. FirstTrades ids c.loop-id.trades.items i) (IsTradeOf c.id-item.result) (AreFound ids)
-    (λ t p e. some_missing (trade_row_with_id t) ids i c.id-item.result c.loop-id-test.true c.id-item.is e)
-    c.loop-id.invariant (one_read g.S.Store c.loop-id.store c.trade.new.self {V = Option row.TradeRow} (Ok None) (IsTradeOf c.id-item.result) (rw c.in-None.is at c.in_ok-trade.ensures.read))
+    record {
+      read = reads_both g.S.Store c.args.store.now c.loop-id.store c.trade.new.self {W = Option row.TradeRow} {X = Option (Vec row.TradeRow)} {H = CallFault} tt None None
+          (λ _. FirstTrades ids c.loop-id.trades.items i) (IsTradeOf c.id-item.result) (AreFound ids)
+          (λ t p e. some_missing (trade_row_with_id t) ids i c.id-item.result c.loop-id-test.true c.id-item.is e)
+          c.loop-id.invariant (one_read g.S.Store c.loop-id.store c.trade.new.self {V = Option row.TradeRow} (Ok None) (IsTradeOf c.id-item.result) (rw c.in-None.is at c.in_ok-trade.ensures.read));
+    }
 
-pub returns-clause-read : goal.returns-clause-read
-returns-clause-read g c =
+pub returns : goal.returns
+returns g c =
     let ids = c.args.ids.now in
     let i = c.loop-id.id-index in
-    reads_retold g.S.Store c.args.store.now c.loop-id.store tt (Some c.loop-id.trades) (λ _. FirstTrades ids c.loop-id.trades.items i) (AreFound ids)
-    (λ t p. p ∙ ap (map (trade_row_with_id t)) (take_all i ids c.loop-id-test.false))
-    c.loop-id.invariant
+    record {
+      read = reads_retold g.S.Store c.args.store.now c.loop-id.store tt (Some c.loop-id.trades) (λ _. FirstTrades ids c.loop-id.trades.items i) (AreFound ids)
+          (λ t p. p ∙ ap (map (trade_row_with_id t)) (take_all i ids c.loop-id-test.false))
+          c.loop-id.invariant;
+    }
 
-pub returns-in_err-trade-clause-read : goal.returns-in_err-trade-clause-read
-returns-in_err-trade-clause-read g c =
+pub returns-in_err-trade : goal.returns-in_err-trade
+returns-in_err-trade g c =
     let old = c.args.store.now in
     let p = err_from_is_err_and c.from_residual.result c.from_residual.ensures.1 in
-    rw p.1 (reads_failed g.S.Store old c.trade.new.self p.0 _ (unchanged_after g.S.Store old c.loop-id.store c.trade.new.self _ _ (c.loop-id.invariant.unchanged) c.in_err-trade.ensures.read))
+    record { read = rw p.1 (reads_failed g.S.Store old c.trade.new.self p.0 _ (unchanged_after g.S.Store old c.loop-id.store c.trade.new.self _ _ (c.loop-id.invariant.unchanged) c.in_err-trade.ensures.read)) }
 
-pub returns-in_err-push-in-Some-clause-read : goal.returns-in_err-push-in-Some-clause-read
-returns-in_err-push-in-Some-clause-read g c =
+pub returns-in_err-push-in-Some : goal.returns-in_err-push-in-Some
+returns-in_err-push-in-Some g c =
     let old = c.args.store.now in
     let p = err_from_is_err_and c.from_residual-in_err-push-in-Some.result c.from_residual-in_err-push-in-Some.ensures.1 in
-    rw p.1 (reads_failed g.S.Store old c.trade.new.self p.0 _ (unchanged_after g.S.Store old c.loop-id.store c.trade.new.self _ _ (c.loop-id.invariant.unchanged) c.in_ok-trade.ensures.read))
+    record { read = rw p.1 (reads_failed g.S.Store old c.trade.new.self p.0 _ (unchanged_after g.S.Store old c.loop-id.store c.trade.new.self _ _ (c.loop-id.invariant.unchanged) c.in_ok-trade.ensures.read)) }

@@ -6,9 +6,11 @@ use Rattle.brk_store_required.specs.Required.{IsCustomerWithId}
 use Rattle.brk_store.proofs.Retelling.{retold}
 use Rattle.brk_store_required.proofs.required.require_customer.Goals as goal
 
-pub returns-in-Some-clause-read : goal.returns-in-Some-clause-read
-returns-in-Some-clause-read g c =
-    retold g.S.Store c.args.store.now c.customer.new.self (Some c.in-Some.customer) c.in-Some.customer
-    (λ o (t : Tables). option_map abstract_customer o ≡ find (λ (r : Customer). r.id == c.args.id) t.customers) (λ customer (t : Tables). IsCustomerWithId t c.args.id customer)
-    (λ t e. sym e)
-    (rw c.in-Some.is at c.in_ok-customer.ensures.read)
+pub returns-in-Some : goal.returns-in-Some
+returns-in-Some g c =
+    record {
+      read = retold g.S.Store c.args.store.now c.customer.new.self (Some c.in-Some.customer) c.in-Some.customer
+          (λ o (t : Tables). option_map abstract_customer o ≡ find (λ (r : Customer). r.id == c.args.id) t.customers) (λ customer (t : Tables). IsCustomerWithId t c.args.id customer)
+          (λ t e. sym e)
+          (rw c.in-Some.is at c.in_ok-customer.ensures.read);
+    }

@@ -5,10 +5,12 @@ use Rattle.brk_ref.specs.Records.{abstract_tax_rate}
 use Rattle.brk_store.proofs.Retelling.{retold}
 use Rattle.brk_store_required.proofs.required.require_tax.Goals as goal
 
-pub returns-in-Some-clause-read : goal.returns-in-Some-clause-read
-returns-in-Some-clause-read g c =
-    retold g.S.Store c.args.store.now c.tax_with_id.new.self (Some c.in-Some.tax) c.in-Some.tax
-    (λ o (t : Tables). option_map abstract_tax_rate o ≡ find (λ (r : TaxRate). r.id == c.args.id) t.tax_rates)
-    (λ tax (t : Tables). find (λ (r : TaxRate). r.id == c.args.id) t.tax_rates ≡ Some (abstract_tax_rate tax))
-    (λ t e. sym e)
-    (rw c.in-Some.is at c.in_ok-tax.ensures.read)
+pub returns-in-Some : goal.returns-in-Some
+returns-in-Some g c =
+    record {
+      read = retold g.S.Store c.args.store.now c.tax_with_id.new.self (Some c.in-Some.tax) c.in-Some.tax
+          (λ o (t : Tables). option_map abstract_tax_rate o ≡ find (λ (r : TaxRate). r.id == c.args.id) t.tax_rates)
+          (λ tax (t : Tables). find (λ (r : TaxRate). r.id == c.args.id) t.tax_rates ≡ Some (abstract_tax_rate tax))
+          (λ t e. sym e)
+          (rw c.in-Some.is at c.in_ok-tax.ensures.read);
+    }

@@ -6,10 +6,12 @@ use Rattle.brk_store_required.specs.Valuation.{market_value_of_summary}
 use Rattle.brk_store.proofs.Retelling.{retold}
 use Rattle.brk_store_required.proofs.valuation.add_value_at_last_price.Goals as goal
 
-pub returns-in-Some-clause-read : goal.returns-in-Some-clause-read
-returns-in-Some-clause-read g c =
+pub returns-in-Some : goal.returns-in-Some
+returns-in-Some g c =
     let row = c.args.row.now in
-    retold g.S.Store c.args.store.now c.require_last_price.new.store c.in_ok-price.price c.in-Some.sum
-    (λ price (t : Tables). price ≡ last_price_in_tables t row.symbol) (λ sum (t : Tables). sum ≡ c.args.amount +ℤ market_value_of_summary t (abstract_summary_row row))
-    (λ t e. (rw c.in-Some.is at c.add_market_value.ensures) ∙ ap (λ price. c.args.amount +ℤ row.qty *ℤ pos price) e)
-    c.in_ok-price.ensures.read
+    record {
+      read = retold g.S.Store c.args.store.now c.require_last_price.new.store c.in_ok-price.price c.in-Some.sum
+          (λ price (t : Tables). price ≡ last_price_in_tables t row.symbol) (λ sum (t : Tables). sum ≡ c.args.amount +ℤ market_value_of_summary t (abstract_summary_row row))
+          (λ t e. (rw c.in-Some.is at c.add_market_value.ensures) ∙ ap (λ price. c.args.amount +ℤ row.qty *ℤ pos price) e)
+          c.in_ok-price.ensures.read;
+    }

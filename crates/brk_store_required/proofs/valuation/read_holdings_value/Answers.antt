@@ -4,11 +4,13 @@ use Rattle.brk_store_required.specs.Valuation.{AreValuedSummariesOfAccount, mark
 use Rattle.brk_store.proofs.Retelling.{retold}
 use Rattle.brk_store_required.proofs.valuation.read_holdings_value.Goals as goal
 
-pub returns-clause-read : goal.returns-clause-read
-returns-clause-read g c =
+pub returns : goal.returns
+returns g c =
     let held = c.in_ok-held.held in
-    retold g.S.Store c.args.store.now c.read_valued_summaries.new.store held held.value
-    (λ held (t : Tables). AreValuedSummariesOfAccount t c.args.account held)
-    (λ worth (t : Tables). worth ≡ market_value_of_account t c.args.account)
-    (λ t p. p.value)
-    c.in_ok-held.ensures.read
+    record {
+      read = retold g.S.Store c.args.store.now c.read_valued_summaries.new.store held held.value
+          (λ held (t : Tables). AreValuedSummariesOfAccount t c.args.account held)
+          (λ worth (t : Tables). worth ≡ market_value_of_account t c.args.account)
+          (λ t p. p.value)
+          c.in_ok-held.ensures.read;
+    }

@@ -1,6 +1,6 @@
 use Rattle.std.proofs.Common.{◌≡◌, ◌==◌, ◌∙◌, ◌+◌, ◌+ℤ◌, ℤ, ℕ, List, ap, filter, map, sym, take}
 use Rattle.std.proofs.lemmas.List.{take_all}
-use Rattle.brk_money.specs.declared.fault.Fault.{Fault}
+use Rattle.brk_money.specs.declared.fault.CallFault.{CallFault}
 use Rattle.brk_model.specs.Lists.{total_by}
 use Rattle.brk_model.specs.Tables as tables
 use Rattle.brk_model.specs.Tables.{Tables}
@@ -23,7 +23,7 @@ FirstWorth account rows total i t =
 
 pub loop-row-init : goal.loop-row-init
 loop-row-init g c =
-    retold g.S.Store c.args.store.now c.summaries_of.new.self c.in_ok-rows.rows tt
+    retold g.S.Store c.args.store.now c.read_summaries.new.self c.in_ok-rows.rows tt
     (λ all (t : Tables). map abstract_summary_row all.items ≡ filter (λ (r : tables.SummaryRow). r.account == c.args.account) t.summaries)
     (λ _. FirstWorth c.args.account c.deref-row-items.result.now c.new-total.result 0)
     (λ t e. (ap (map abstract_summary_row) c.deref-row-items.ensures.value ∙ e, c.new-total.ensures ∙ sym (total_by-none (market_value_of_summary t))))
@@ -35,7 +35,7 @@ loop-row-preserved g c =
     let i = c.loop-row.row-index in
     let row = c.row-item.result in
     let sum = c.in_ok-sum.sum in
-    read_with g.S.Store c.args.store.now c.loop-row.store c.add_value_at_last_price.new.store {H = Fault} tt sum tt
+    read_with g.S.Store c.args.store.now c.loop-row.store c.add_value_at_last_price.new.store {H = CallFault} tt sum tt
     (λ _. FirstWorth c.args.account rows c.loop-row.total i)
     (λ sum (t : Tables). sum ≡ c.loop-row.total +ℤ market_value_of_summary t (abstract_summary_row row))
     (λ _. FirstWorth c.args.account rows sum (i + 1))
@@ -45,25 +45,29 @@ loop-row-preserved g c =
     ))
     c.loop-row.invariant c.in_ok-sum.ensures.read
 
-pub returns-clause-read : goal.returns-clause-read
-returns-clause-read g c =
+pub returns : goal.returns
+returns g c =
     let account = c.args.account in
     let all = c.in_ok-rows.rows in
     let rows = c.deref-row-items.result.now in
     let i = c.loop-row.row-index in
     let held : ValuedSummaries = record { rows = all; value = c.loop-row.total } in
-    retold g.S.Store c.args.store.now c.loop-row.store tt held
-    (λ _. FirstWorth account rows c.loop-row.total i)
-    (λ held (t : Tables). AreValuedSummariesOfAccount t account held)
-    (λ t p. record {
-      rows = sym (ap (map abstract_summary_row) c.deref-row-items.ensures.value) ∙ p.0;
-      value = p.1 ∙ ap (λ xs. total_by (market_value_of_summary t) (map abstract_summary_row xs)) (take_all i rows c.loop-row-test.false) ∙ ap (total_by (market_value_of_summary t)) p.0;
-    })
-    c.loop-row.invariant
+    record {
+      read = retold g.S.Store c.args.store.now c.loop-row.store tt held
+          (λ _. FirstWorth account rows c.loop-row.total i)
+          (λ held (t : Tables). AreValuedSummariesOfAccount t account held)
+          (λ t p. record {
+            rows = sym (ap (map abstract_summary_row) c.deref-row-items.ensures.value) ∙ p.0;
+            value = p.1 ∙ ap (λ xs. total_by (market_value_of_summary t) (map abstract_summary_row xs)) (take_all i rows c.loop-row-test.false) ∙ ap (total_by (market_value_of_summary t)) p.0;
+          })
+          c.loop-row.invariant;
+    }
 
-pub returns-in_err-sum-clause-read : goal.returns-in_err-sum-clause-read
-returns-in_err-sum-clause-read g c =
+pub returns-in_err-sum : goal.returns-in_err-sum
+returns-in_err-sum g c =
     let old = c.args.store.now in
     let p = err_from_is_err_and c.from_residual-in_err-sum.result c.from_residual-in_err-sum.ensures.1 in
-    rw p.1 (failed_after g.S.Store old c.loop-row.store c.add_value_at_last_price.new.store _ p.0 _ _
-    (single_read_changes_nothing old c.loop-row.store _ _ c.loop-row.invariant) c.in_err-sum.ensures.read)
+    record {
+      read = rw p.1 (failed_after g.S.Store old c.loop-row.store c.add_value_at_last_price.new.store _ p.0 _ _
+          (single_read_changes_nothing old c.loop-row.store _ _ c.loop-row.invariant) c.in_err-sum.ensures.read);
+    }

@@ -1,8 +1,9 @@
 use Rattle.std.proofs.Common.{◌∙◌, Ok, Err, ap, refl, rules, subst, sym}
 use Rattle.std.proofs.lemmas.Result.{err_from_is_err_and}
+use Rattle.brk_money.specs.declared.fault.Condition.TheVariants.{NotEmpty}
 use Rattle.brk_money.specs.declared.fault.Fault.TheVariants.{Damaged}
 use Rattle.brk_store_transactions.specs.Audited.{AuditPost}
-use Rattle.brk_store_transactions.proofs.Closing.{audit_fails, audit_gives_up, audit_passes}
+use Rattle.brk_store_transactions.proofs.Closing.{audit_fails, audit_gives_up, audit_passes, no_damage}
 use Rattle.brk_store_transactions.proofs.auditing.audit_database.Goals as goal
 
 pub returns-clause-audited : goal.returns-clause-audited
@@ -27,4 +28,9 @@ returns-in_err-first_failing_condition-clause-audited g c =
     (subst (λ r. AuditPost g.S.Store c.args.conn.now c.drop-tx.new.self.0 r) (sym (p.1 ∙ ap Err p.2))
     (audit_gives_up g.S.Store c.args.conn.now c.args.conn.now c.begin_transaction-tx.result.conn.now c.first_failing_condition.new.tx.conn.now
     c.drop-tx.new.self.0 fault refl c.begin_transaction-tx.ensures.begun
-    c.begin_transaction-tx.ensures.is_committed c.in_err-first_failing_condition.ensures.step c.in_err-first_failing_condition.ensures.fault c.drop-tx.ensures.survives c.drop-tx.ensures.undone))
+    c.begin_transaction-tx.ensures.is_committed c.in_err-first_failing_condition.ensures.step c.drop-tx.ensures.survives c.drop-tx.ensures.undone))
+
+pub returns-in_err-first_failing_condition-clause-condition : goal.returns-in_err-first_failing_condition-clause-condition
+returns-in_err-first_failing_condition-clause-condition g c =
+    let p = err_from_is_err_and c.from_residual.result c.from_residual.ensures.1 in
+    rw (p.1 ∙ ap Err p.2) (no_damage c.in_err-first_failing_condition.field-0.0 NotEmpty)

@@ -1,7 +1,6 @@
 use Rattle.std.proofs.Common.{◌≡◌, ◌∙◌, IsTrue, Result, Ok, Err, ap, subst, rules}
 use Rattle.std.proofs.lemmas.Result.{err_from_is_err_and}
-use Rattle.brk_money.specs.declared.fault.Fault.{Fault}
-use Rattle.brk_money.specs.declared.fault.Fault.TheVariants.{Store}
+use Rattle.brk_money.specs.declared.fault.StoreFailed.{StoreFailed}
 use Rattle.brk_tables_sql.specs.Desk.{ChangesTablesBy, IsCompilationOutcome}
 use Rattle.brk_tables_schema.specs.Desk.{desk_tables}
 use Rattle.brk_trade_rows.specs.Changes.{tables_after_changes}
@@ -19,7 +18,7 @@ returns-in-Ok-clause-applied g c =
     let text = c.existence_probe_text.result.now in
     let step = after_look g.S.Store old first mid c.in_ok-_exists._exists (λ exists a _. IsCompilationOutcome text exists a.now.schema)
     (rw c.transaction-tx.ensures.begun at c.in_ok-_exists.ensures.step) (Ok tt) after c.in_ok-apply_each_change.ensures.step in
-    subst (λ h. ApplyPost {V = Unit {0}} {E = Fault} g.S.Store old h (Ok tt) after) (search rules)
+    subst (λ h. ApplyPost {V = Unit {0}} {E = StoreFailed} g.S.Store old h (Ok tt) after) (search rules)
     (applies g.S.Store old mid end (c.is_autocommit-is_autocommit.ensures.settled (search rules)) (ChangesTablesBy desk_tables after) step
     c.in-Ok.ensures.survives c.in-Ok.ensures.ok (λ db o may. g.met.S.Store.settled end.store db o may) after (λ a b h. h))
 
@@ -35,9 +34,9 @@ returns-in-Err-clause-applied g c =
     let step = after_look g.S.Store old first mid c.in_ok-_exists._exists (λ exists a _. IsCompilationOutcome text exists a.now.schema) look (Ok tt) after c.in_ok-apply_each_change.ensures.step in
     let open_then = open_at_look g.S.Store old first mid c.in_ok-_exists._exists (λ exists a _. IsCompilationOutcome text exists a.now.schema) look (Ok tt)
     after c.in_ok-apply_each_change.ensures.step in
-    subst (λ h. ApplyPost {V = Unit {0}} {E = Fault} g.S.Store old h (Err Store) after) (search rules)
+    subst (λ h. ApplyPost {V = Unit {0}} {E = StoreFailed} g.S.Store old h (Err (record {})) after) (search rules)
     (applies_none g.S.Store old mid end (c.is_autocommit-is_autocommit.ensures.settled (search rules)) (ChangesTablesBy desk_tables after) step
-    c.in-Err.ensures.survives c.in-Err.field-0 c.in-Err.ensures.err open_then Store after (λ a b h. h))
+    c.in-Err.ensures.survives c.in-Err.field-0 c.in-Err.ensures.err open_then (record {}) after (λ a b h. h))
 
 pub returns-in_err-_exists-clause-applied : goal.returns-in_err-_exists-clause-applied
 returns-in_err-_exists-clause-applied g c =
@@ -57,7 +56,7 @@ returns-in_err-apply_each_change-clause-applied g c =
     let after = tables_after_changes c.args.changes.now in
     let text = c.existence_probe_text.result.now in
     let fault = c.in_err-apply_each_change.field-0.0 in
-    let out : Result (Unit {0}) Fault = Err fault in
+    let out : Result (Unit {0}) StoreFailed = Err fault in
     let step = after_look g.S.Store old c.statement_compiles.new.tx.conn.now mid c.in_ok-_exists._exists
     (λ exists a _. IsCompilationOutcome text exists a.now.schema) (rw c.transaction-tx.ensures.begun at c.in_ok-_exists.ensures.step) out after
     c.in_err-apply_each_change.ensures.step in

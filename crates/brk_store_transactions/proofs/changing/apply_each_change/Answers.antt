@@ -3,7 +3,7 @@ use Rattle.std.proofs.lemmas.List.{take_all}
 use Rattle.std.proofs.lemmas.Result.{err_from_is_err_and}
 use Rattle.std.proofs.lemmas.List.Sums.{fold_more}
 use Rattle.sqlite.specs.Held.{state}
-use Rattle.brk_money.specs.declared.fault.Fault.{Fault}
+use Rattle.brk_money.specs.declared.fault.StoreFailed.{StoreFailed}
 use Rattle.brk_model.specs.Tables.{Tables}
 use Rattle.brk_tables_sql.proofs.Inside.{step_then}
 use Rattle.brk_tables_sql.proofs.Strangers.{spares_then}
@@ -46,7 +46,7 @@ returns-clause-step g c =
     let a = state g.S.Store c.args.tx.now.conn.now in
     let b = state g.S.Store c.loop-change.tx.conn.now in
     let whole : take c.loop-change.change-index c.args.changes.now ≡ c.args.changes.now = take_all c.loop-change.change-index c.args.changes.now c.loop-change-test.false in
-    subst (λ (l : List Change). IsTransactionStep {V = Unit {0}} {E = Fault} a b (Ok tt) (λ _ x y. ChangesTablesBy desk_tables (tables_after_changes l) x.now y.now)) whole c.loop-change.invariant.step
+    subst (λ (l : List Change). IsTransactionStep {V = Unit {0}} {E = StoreFailed} a b (Ok tt) (λ _ x y. ChangesTablesBy desk_tables (tables_after_changes l) x.now y.now)) whole c.loop-change.invariant.step
 
 pub returns-in_err-apply_change-clause-step : goal.returns-in_err-apply_change-clause-step
 returns-in_err-apply_change-clause-step g c =

@@ -1,6 +1,6 @@
 use Rattle.std.proofs.Common.{◌≡◌, Ok, take}
 use Rattle.sqlite.specs.Held.{state}
-use Rattle.brk_money.specs.declared.fault.Fault.{Fault}
+use Rattle.brk_money.specs.declared.fault.StoreFailed.{StoreFailed}
 use Rattle.brk_tables_sql.specs.Model.{IsTransactionStep}
 use Rattle.brk_tables_sql.specs.Desk.{ChangesTablesBy}
 use Rattle.brk_tables_schema.specs.Desk.{desk_tables}
@@ -10,6 +10,6 @@ use Rattle.brk_store_transactions.proofs.changing.apply_each_change.Given as goa
 abbrev pub invariant-loop-change : goal.invariant-loop-change
 invariant-loop-change g l = record {
   same : l.tx.conn.ghost_name ≡ l.fn.tx.conn.ghost_name;
-  step : IsTransactionStep {V = Unit {0}} {E = Fault} (state g.S.Store l.fn.tx.conn.now) (state g.S.Store l.tx.conn.now) (Ok tt)
+  step : IsTransactionStep {V = Unit {0}} {E = StoreFailed} (state g.S.Store l.fn.tx.conn.now) (state g.S.Store l.tx.conn.now) (Ok tt)
       (λ _ a b. ChangesTablesBy desk_tables (tables_after_changes (take l.change-index l.changes)) a.now b.now);
 }

@@ -3,7 +3,7 @@ use Rattle.std.proofs.lemmas.Result.{err_from_is_err_and}
 use Rattle.sqlite.specs.Effect.{Database}
 use Rattle.sqlite.specs.Held.{state}
 use Rattle.brk_money.specs.declared.fault.Condition.TheVariants.{NotEmpty}
-use Rattle.brk_money.specs.declared.fault.Fault.{Fault}
+use Rattle.brk_money.specs.declared.fault.StoreFailed.{StoreFailed}
 use Rattle.brk_money.specs.declared.fault.Fault.TheVariants.{Damaged, Store}
 use Rattle.brk_tables_sql.proofs.Inside.{clean_before, step_then}
 use Rattle.brk_tables.specs.Made.{CreatesDeskTables}
@@ -45,13 +45,12 @@ returns-in-Err-clause-created g c =
 
 pub returns-in_err-has_some_desk_table-clause-created : goal.returns-in_err-has_some_desk_table-clause-created
 returns-in_err-has_some_desk_table-clause-created g c =
-    let is_store : c.in_err-has_some_desk_table.field-0.0 ≡ Store = let e = c.in_err-has_some_desk_table.ensures.fault in cc in
     let p = err_from_is_err_and c.from_residual.result c.from_residual.ensures.1 in
     creates_nothing g.S.Store c.args.conn.now c.has_some_desk_table.new.tx.conn.now c.drop-tx.new.self.0
     (c.is_autocommit-is_autocommit.ensures.settled (search rules)) (Err c.in_err-has_some_desk_table.field-0.0)
     (λ has a b. (b.now ≡ a.now) × (has ≡ has_table_of_desk a.now.schema)) (rw c.transaction-tx.ensures.begun at c.in_err-has_some_desk_table.ensures.step)
     c.drop-tx.ensures.survives c.drop-tx.ensures.undone _ c.from_residual.result Store (search rules)
-    (p.1 ∙ ap Err (p.2 ∙ is_store)) (λ _. inr refl)
+    (p.1 ∙ ap Err p.2) (λ _. inr refl)
 
 pub returns-then-branch-clause-created : goal.returns-then-branch-clause-created
 returns-then-branch-clause-created g c =
@@ -67,14 +66,13 @@ returns-in_err-create_desk_tables-clause-created g c =
     let old = c.args.conn.now in
     let test = c.has_some_desk_table.new.tx.conn.now in
     let mid = c.create_desk_tables.new.tx.conn.now in
-    let out : Result (Unit {0}) Fault = Err c.in_err-create_desk_tables.field-0.0 in
+    let out : Result (Unit {0}) StoreFailed = Err c.in_err-create_desk_tables.field-0.0 in
     let step = step_then (state g.S.Store (with_transaction_open old)) (state g.S.Store test) (state g.S.Store mid) c.in_ok-has_some_desk_table.field-0 out
     (λ has a b. (b.now ≡ a.now) × (has ≡ has_table_of_desk a.now.schema)) (λ _ a b. CreatesDeskTables a.now b.now) (λ _ a b. Made a.now b.now)
     (λ _ p q. (sym p.1 ∙ c.if-branch.false, subst (λ d. CreatesDeskTables d (state g.S.Store mid).now) p.0 q))
     (rw c.transaction-tx.ensures.begun at c.in_ok-has_some_desk_table.ensures.step) c.in_err-create_desk_tables.ensures.step in
-    let is_store : c.in_err-create_desk_tables.field-0.0 ≡ Store = let e = c.in_err-create_desk_tables.ensures.fault in cc in
     let p = err_from_is_err_and c.from_residual-in_err-create_desk_tables.result c.from_residual-in_err-create_desk_tables.ensures.1 in
     creates_nothing g.S.Store old mid c.drop-tx-in_err-create_desk_tables.new.self.0 (c.is_autocommit-is_autocommit.ensures.settled (search rules)) out (λ _ a b. Made a.now b.now) step
     c.drop-tx-in_err-create_desk_tables.ensures.survives c.drop-tx-in_err-create_desk_tables.ensures.undone _
     c.from_residual-in_err-create_desk_tables.result Store (search rules)
-    (p.1 ∙ ap Err (p.2 ∙ is_store)) (λ _. inr refl)
+    (p.1 ∙ ap Err p.2) (λ _. inr refl)

@@ -1,9 +1,11 @@
 use Rattle.std.proofs.Common.{◌≡◌, ◌∙◌, Ok, Err, ap, false, rules, subst, sym, true}
 use Rattle.std.proofs.lemmas.Result.{err_from_is_err_and}
 use Rattle.brk_money.specs.declared.fault.Fault.TheVariants.{Damaged, Store}
+use Rattle.brk_money.specs.declared.fault.Condition.TheVariants.{NotEmpty}
 use Rattle.brk_trade_rows.specs.Schemas.{abstract_schema}
 use Rattle.brk_store_transactions.specs.Audited.{AdoptPost}
 use Rattle.brk_store_transactions.proofs.Adoption.{commits, commits_none, fails, move_gives_up, passes}
+use Rattle.brk_store_transactions.proofs.Closing.{no_damage}
 use Rattle.brk_store_transactions.proofs.upgrading.audit_and_upgrade_database.Goals as goal
 
 pub returns-in-Fails-clause-adopted : goal.returns-in-Fails-clause-adopted
@@ -46,5 +48,10 @@ returns-in_err-upgrade_tables-clause-adopted g c =
     (subst (λ r. AdoptPost g.S.Store c.args.conn.now c.drop-tx-in_err-upgrade_tables.new.self.0 r) (sym (p.1 ∙ ap Err p.2))
     (move_gives_up g.S.Store c.args.conn.now c.audit_by_own_schema.new.tx.conn.now c.begin_transaction-tx.ensures.is_committed c.in_ok-condition.field-0
     (rw c.begin_transaction-tx.ensures.begun at c.in_ok-condition.ensures.step) c.in-Passes.schema c.in-Passes.is older
-    c.upgrade_tables.new.tx.conn.now c.drop-tx-in_err-upgrade_tables.new.self.0 fault c.in_err-upgrade_tables.ensures.fault c.in_err-upgrade_tables.ensures.step
+    c.upgrade_tables.new.tx.conn.now c.drop-tx-in_err-upgrade_tables.new.self.0 fault c.in_err-upgrade_tables.ensures.step
     c.drop-tx-in_err-upgrade_tables.ensures.survives c.drop-tx-in_err-upgrade_tables.ensures.undone))
+
+pub returns-in_err-upgrade_tables-clause-condition : goal.returns-in_err-upgrade_tables-clause-condition
+returns-in_err-upgrade_tables-clause-condition g c =
+    let p = err_from_is_err_and c.from_residual-in_err-upgrade_tables.result c.from_residual-in_err-upgrade_tables.ensures.1 in
+    rw (p.1 ∙ ap Err p.2) (no_damage c.in_err-upgrade_tables.field-0.0 NotEmpty)

@@ -1,7 +1,7 @@
 use Rattle.std.proofs.Common.{◌≡◌, ◌∙◌, List, Ok, refl, subst, get_or, take, ◌+◌}
 use Rattle.std.proofs.lemmas.List.{take_all}
 use Rattle.sqlite.specs.Held.{state}
-use Rattle.brk_money.specs.declared.fault.Fault.{Fault}
+use Rattle.brk_money.specs.declared.fault.StoreFailed.{StoreFailed}
 use Rattle.brk_tables_sql.specs.Desk.{CreatesTableOfShape}
 use Rattle.brk_tables_sql.specs.Model.{IsTransactionStep}
 use Rattle.brk_tables_sql.proofs.Inside.{step_then}
@@ -35,5 +35,5 @@ loop-table-preserved g c =
 pub returns-clause-step : goal.returns-clause-step
 returns-clause-step g c =
     let whole : take c.loop-table.table-index c.args.tables.now ≡ c.args.tables.now = take_all c.loop-table.table-index c.args.tables.now c.loop-table-test.false in
-    subst (λ (l : List Table). IsTransactionStep {V = Unit {0}} {E = Fault} (state g.S.Store c.args.tx.now.conn.now) (state g.S.Store c.loop-table.tx.conn.now)
+    subst (λ (l : List Table). IsTransactionStep {V = Unit {0}} {E = StoreFailed} (state g.S.Store c.args.tx.now.conn.now) (state g.S.Store c.loop-table.tx.conn.now)
     (Ok tt) (λ _ x y. each l x.now y.now)) whole c.loop-table.invariant.step

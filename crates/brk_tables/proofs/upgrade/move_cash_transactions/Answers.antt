@@ -1,18 +1,20 @@
 use Rattle.std.proofs.Common.{◌≡◌, ◌∙◌, List, Ok, ap, map, subst}
 use Rattle.std.specs.Global.{Vec}
 use Rattle.sqlite.specs.Held.{state}
+use Rattle.sqlite.specs.State.{State}
 use Rattle.brk_model.specs.Lists.{sort_by_key}
 use Rattle.brk_model.specs.Tables.{OldCashRow as Cash}
 use Rattle.brk_ref.specs.Rows.{abstract_old_cash_row}
 use Rattle.brk_ref.specs.declared.old_cash_row.OldCashRow.{OldCashRow}
 use Rattle.brk_tables_sql.specs.Desk.{ChangesTablesBy}
 use Rattle.brk_tables_sql.specs.Model.{IsUnchangedAndSatisfies}
-use Rattle.brk_tables_sql.proofs.Inside.{step_then}
+use Rattle.brk_tables_sql.proofs.Inside.{step_read, step_then}
 use Rattle.brk_tables_schema.specs.Desk.{desk_tables}
 use Rattle.brk_tables_cash.specs.UpgradeStatements.{tables_without_cash_transactions}
 use Rattle.brk_tables_cash.specs.Upgrade.{cash_transactions_by_stamp, tables_with_cash_rows_numbered_from, tables_with_cash_transactions_moved}
 use Rattle.brk_tables_cash.proofs.Sorting.{rows_in_order}
 use Rattle.brk_tables_cash.proofs.Turning.{all_added, all_moved}
+use Rattle.brk_tables_scan.proofs.Failing.{both, fails}
 use Rattle.brk_tables.proofs.upgrade.move_cash_transactions.Goals as goal
 
 pub returns-clause-step : goal.returns-clause-step
@@ -32,8 +34,13 @@ returns-clause-step g c =
     (subst (λ (l : List OldCashRow). Rattle.brk_tables_sql.specs.Model.IsTransactionStep b d (Ok tt)
     (λ _ x y. ChangesTablesBy desk_tables (tables_with_cash_rows_numbered_from 1 (map abstract_old_cash_row l)) x.now y.now)) c.deref.ensures.value
     c.in_ok-add_numbered_cash_rows.ensures.step) in
-    step_then a d e tt c.remove_cash_transactions.result
+    let moved : Unit {0} → State → State → Type 0 = λ _ x y. ChangesTablesBy desk_tables tables_with_cash_transactions_moved x.now y.now in
+    step_read a e tt (Ok tt) moved _ (λ _ _ made. made) (step_then a d e tt (Ok tt)
     (λ _ x y. ChangesTablesBy desk_tables (λ t. tables_with_cash_rows_numbered_from 1 (cash_transactions_by_stamp t) t) x.now y.now)
-    (λ _ x y. ChangesTablesBy desk_tables tables_without_cash_transactions x.now y.now)
-    (λ _ x y. ChangesTablesBy desk_tables tables_with_cash_transactions_moved x.now y.now)
-    (λ _ p q. all_moved a.now d.now e.now p q) step c.remove_cash_transactions.ensures.step
+    (λ _ x y. ChangesTablesBy desk_tables tables_without_cash_transactions x.now y.now) moved
+    (λ _ p q. all_moved a.now d.now e.now p q) step c.in_ok-remove_cash_transactions.ensures.step)
+
+pub returns-in_err-remove_cash_transactions-clause-step : goal.returns-in_err-remove_cash_transactions-clause-step
+returns-in_err-remove_cash_transactions-clause-step g c =
+    fails c.from_residual-in_err-remove_cash_transactions.result _ c.from_residual-in_err-remove_cash_transactions.ensures.0
+    (both (both c.all_cash_transactions.ensures.step c.add_numbered_cash_rows.ensures.step) c.remove_cash_transactions.ensures.step)

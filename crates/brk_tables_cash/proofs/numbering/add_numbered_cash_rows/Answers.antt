@@ -1,7 +1,7 @@
 use Rattle.std.proofs.Common.{◌≡◌, ◌∙◌, ◌+◌, ◌<◌, ℕ, List, Ok, ap, map, length, get_or, refl, sym, subst, take, arith, rules}
 use Rattle.std.proofs.lemmas.List.{take_all, length-map, get_or-map}
 use Rattle.sqlite.specs.Held.{state}
-use Rattle.brk_money.specs.declared.fault.Fault.{Fault}
+use Rattle.brk_money.specs.declared.fault.CallFault.{CallFault}
 use Rattle.brk_model.specs.Tables.{OldCashRow}
 use Rattle.brk_ref.specs.Rows.{abstract_old_cash_row}
 use Rattle.brk_tables_sql.specs.Desk.{ChangesTablesBy}
@@ -33,9 +33,9 @@ loop-row-preserved g c =
           (λ _ x y. ChangesTablesBy desk_tables (tables_with_numbered_cash_row (1 + i) (get_or rows i (abstract_old_cash_row item))) x.now y.now)
           (λ _ x y. ChangesTablesBy desk_tables (tables_with_cash_rows_numbered_from 1 (take (i + 1) rows)) x.now y.now)
           (λ _ p q. one_added (abstract_old_cash_row item) rows i long a.now b.now d.now p q) c.loop-row.invariant.step
-          (subst (λ (r : OldCashRow). IsTransactionStep {V = Unit {0}} {E = Fault} b d (Ok tt)
+          (subst (λ (r : OldCashRow). IsTransactionStep {V = Unit {0}} {E = CallFault} b d (Ok tt)
           (λ _ x y. ChangesTablesBy desk_tables (tables_with_numbered_cash_row (1 + i) r) x.now y.now)) (sym this)
-          (subst (λ (n : ℕ). IsTransactionStep {V = Unit {0}} {E = Fault} b d (Ok tt)
+          (subst (λ (n : ℕ). IsTransactionStep {V = Unit {0}} {E = CallFault} b d (Ok tt)
           (λ _ x y. ChangesTablesBy desk_tables (tables_with_numbered_cash_row n (abstract_old_cash_row item)) x.now y.now)) (search rules)
           c.in_ok-add_numbered_cash_row.ensures.step));
     }
@@ -44,5 +44,5 @@ pub returns-clause-step : goal.returns-clause-step
 returns-clause-step g c =
     let rows = map abstract_old_cash_row c.args.rows.now in
     let whole : take c.loop-row.row-index rows ≡ rows = take_all c.loop-row.row-index rows (omega (arith, length-map c.args.rows.now abstract_old_cash_row, c.loop-row-test.false)) in
-    subst (λ (l : List OldCashRow). IsTransactionStep {V = Unit {0}} {E = Fault} (state g.S.Store c.args.tx.now.conn.now) (state g.S.Store c.loop-row.tx.conn.now)
+    subst (λ (l : List OldCashRow). IsTransactionStep {V = Unit {0}} {E = CallFault} (state g.S.Store c.args.tx.now.conn.now) (state g.S.Store c.loop-row.tx.conn.now)
     (Ok tt) (λ _ x y. ChangesTablesBy desk_tables (tables_with_cash_rows_numbered_from 1 l) x.now y.now)) whole c.loop-row.invariant.step

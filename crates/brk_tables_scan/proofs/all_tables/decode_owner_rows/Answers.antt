@@ -2,7 +2,9 @@ use Rattle.std.proofs.Common.{refl}
 use Rattle.brk_tables_scan.proofs.Continued.{continues_three}
 use Rattle.brk_tables_scan.proofs.all_tables.decode_owner_rows.Goals as goal
 
-pub returns-clause-decoded : goal.returns-clause-decoded
-returns-clause-decoded c =
-    continues_three _ _ _ _ _ _ _ _ _ _ _ (λ p q r. record { desk = p; kept = refl; brokers = q; customers = r })
-    c.in_ok-last.ensures.decoding c.in_ok-brokers.ensures.decoding c.in_ok-customers.ensures.decoding
+pub returns : goal.returns
+returns c =
+    record {
+      decoded = continues_three _ _ _ _ _ _ _ _ _ _ _ (λ p q r. record { desk = p; kept = refl; brokers = q; customers = r })
+          c.in_ok-last.ensures.decoding c.in_ok-brokers.ensures.decoding c.in_ok-customers.ensures.decoding;
+    }

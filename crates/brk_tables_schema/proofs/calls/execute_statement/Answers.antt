@@ -1,7 +1,5 @@
 use Rattle.std.proofs.Common.{refl}
-use Rattle.std.proofs.Common.{Err}
-use Rattle.brk_money.specs.declared.fault.Fault.{Fault}
-use Rattle.brk_money.specs.declared.fault.Fault.TheVariants.{Store}
+use Rattle.brk_money.specs.declared.fault.StoreFailed.{StoreFailed}
 use Rattle.sqlite.specs.Values.{bound}
 use Rattle.brk_tables_sql.proofs.Inside.{step_ok, step_err}
 use Rattle.brk_tables_schema.proofs.calls.execute_statement.Goals as goal
@@ -13,5 +11,5 @@ returns-in-Ok-clause-step g c =
 
 pub returns-in-Err-clause-step : goal.returns-in-Err-clause-step
 returns-in-Err-clause-step g c =
-    step_err {V = Unit {0}} {E = Fault} g.S.Store c.args.text.now (bound c.args.params.now) c.args.tx.now.conn.now c.execute.new.self.conn.now (Err Store) _ c.in-Err.field-0 refl
+    step_err {V = Unit {0}} {E = StoreFailed} g.S.Store c.args.text.now (bound c.args.params.now) c.args.tx.now.conn.now c.execute.new.self.conn.now _ _ c.in-Err.field-0 refl
     (λ off. (c.in-Err.ensures.ended off).1) c.in-Err.ensures.runs c.in-Err.ensures.survives

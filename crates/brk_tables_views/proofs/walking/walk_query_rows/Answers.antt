@@ -16,7 +16,7 @@ returns-in-Err-clause-crash g c =
     commits_none c.args.sql.now (bound c.args.params.now) old new c.requires.query (let kept : Survives old new (CommitsShowing c.args.sql.now (bound c.args.params.now) old) = search rules in kept)
 
 pub returns-in-Err-clause-early : goal.returns-in-Err-clause-early
-returns-in-Err-clause-early g c clean = (inr refl, record { records = []; begins = inl refl; taken = refl })
+returns-in-Err-clause-early g c clean = record { records = []; begins = inl refl; taken = refl }
 
 pub returns-in-Err-clause-changes_at_most_by_rollback : goal.returns-in-Err-clause-changes_at_most_by_rollback
 returns-in-Err-clause-changes_at_most_by_rollback g c clean =
@@ -67,7 +67,7 @@ returns-in-Err-next-clause-early g c clean =
     let now = c.next.follows.lender-at-none.conn.now in
     let late : HasCleanDisk (state g.S.Store now) = search rules in
     let was = c.rows.invariant.4 (omega (arith, moved.survives.clean, late)) in
-    (inr refl, record { records = was.0; begins = inr (was.3.0.was_open, begins_at _ _ _ _ was.3.0.now_is _ (given_begin g.S.Store _ _ c.rows.rows.conn.now _ was.1)); taken = was.2 })
+    record { records = was.0; begins = inr (was.3.0.was_open, begins_at _ _ _ _ was.3.0.now_is _ (given_begin g.S.Store _ _ c.rows.rows.conn.now _ was.1)); taken = was.2 }
 
 pub returns-in-Err-next-clause-changes_at_most_by_rollback : goal.returns-in-Err-next-clause-changes_at_most_by_rollback
 returns-in-Err-next-clause-changes_at_most_by_rollback g c clean =
@@ -142,7 +142,7 @@ returns-clause-early g c clean =
     let now = c.rows.rows.conn.now in
     let late : HasCleanDisk (state g.S.Store now) = search rules in
     let was = c.rows.invariant.4 late in
-    (inr refl, record { records = was.0; begins = inr (was.3.0.was_open, begins_at _ _ _ _ was.3.0.now_is _ (given_begin g.S.Store _ _ now _ was.1)); taken = was.2 })
+    record { records = was.0; begins = inr (was.3.0.was_open, begins_at _ _ _ _ was.3.0.now_is _ (given_begin g.S.Store _ _ now _ was.1)); taken = was.2 }
 
 pub returns-clause-changes_at_most_by_rollback : goal.returns-clause-changes_at_most_by_rollback
 returns-clause-changes_at_most_by_rollback g c clean =
@@ -160,14 +160,8 @@ returns-in-Err-decode_record-clause-early g c clean =
     let moved = c.next.follows.holds-at-none in
     let now = c.next.follows.lender-at-none.conn.now in
     let late : HasCleanDisk (state g.S.Store now) = search rules in
-    let was = c.rows.invariant.4 (omega (arith, moved.survives.clean, late)) in (
-      c.in-Err-decode_record.ensures.fault,
-      record {
-        records = was.0;
-        begins = inr (was.3.0.was_open, begins_at _ _ _ _ was.3.0.now_is _ (given_begin g.S.Store _ _ c.rows.rows.conn.now _ was.1));
-        taken = was.2;
-      },
-    )
+    let was = c.rows.invariant.4 (omega (arith, moved.survives.clean, late)) in
+    record { records = was.0; begins = inr (was.3.0.was_open, begins_at _ _ _ _ was.3.0.now_is _ (given_begin g.S.Store _ _ c.rows.rows.conn.now _ was.1)); taken = was.2 }
 
 pub returns-in-Err-clause-leads : goal.returns-in-Err-clause-leads
 returns-in-Err-clause-leads g c = g.met.V.Visitor.reflexive _
@@ -175,17 +169,5 @@ returns-in-Err-clause-leads g c = g.met.V.Visitor.reflexive _
 pub returns-in-Err-visit-clause-leads : goal.returns-in-Err-visit-clause-leads
 returns-in-Err-visit-clause-leads g c = g.met.V.Visitor.transitive _ _ _ c.rows.invariant.3.1 c.in-Err-visit.ensures.leads
 
-pub returns-in-Err-clause-fault : goal.returns-in-Err-clause-fault
-returns-in-Err-clause-fault g c = inr refl
-
-pub returns-in-Err-next-clause-fault : goal.returns-in-Err-next-clause-fault
-returns-in-Err-next-clause-fault g c = inr refl
-
-pub returns-in-Err-decode_record-clause-fault : goal.returns-in-Err-decode_record-clause-fault
-returns-in-Err-decode_record-clause-fault g c = c.in-Err-decode_record.ensures.fault
-
 pub returns-in-Err-visit-clause-fault : goal.returns-in-Err-visit-clause-fault
 returns-in-Err-visit-clause-fault g c = (c.rows.visitor, c.in-Ok-decode_record.item, c.in-Err-visit.ensures.stops)
-
-pub returns-clause-fault : goal.returns-clause-fault
-returns-clause-fault g c = inr refl

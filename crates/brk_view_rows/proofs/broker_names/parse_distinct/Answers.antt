@@ -7,8 +7,7 @@ use Rattle.brk_model.specs.Lists.{distinct_texts}
 use Rattle.brk_money.specs.Spelling.{Text}
 use Rattle.brk_money.specs.declared.refusal.Refusal.TheVariants.{BadText}
 use Rattle.brk_ref.specs.Fields.{texts_of_fields}
-use Rattle.brk_view_rows.specs.BrokerNames.{names_then_new_names}
-use Rattle.brk_view_rows.proofs.Distinct.{next_refused, next_taken, none_yet, still_distinct}
+use Rattle.brk_view_rows.proofs.Distinct.{names_then_new_names, next_refused, next_taken, none_yet, still_distinct}
 use Rattle.brk_view_rows.proofs.broker_names.parse_distinct.Goals as goal
 
 pub loop-field-init : goal.loop-field-init

@@ -2,7 +2,8 @@ use Rattle.std.proofs.Common.{◌≡◌, drop}
 use Rattle.brk_model.specs.Forms.{read_each_text, read_name}
 use Rattle.brk_model.specs.Lists.{distinct_texts}
 use Rattle.brk_ref.specs.Fields.{texts_of_fields}
-use Rattle.brk_view_rows.specs.BrokerNames.{distinct_parsed_names, names_then_new_names}
+use Rattle.brk_view_rows.specs.BrokerNames.{distinct_parsed_names}
+use Rattle.brk_view_rows.proofs.Distinct.{names_then_new_names}
 use Rattle.brk_view_rows.proofs.broker_names.parse_distinct.Given as goal
 
 abbrev pub invariant-loop-field : goal.invariant-loop-field

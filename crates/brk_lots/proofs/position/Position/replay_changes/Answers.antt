@@ -19,8 +19,8 @@ apply-requires c =
     let h = rw e at c.loop-deal.invariant.older in
     let p : IsPosition c.loop-deal.position = rw (← c.position.view_is) c.position.invariant.1 in
     let o = old_lots (abstract_deal d) c.loop-deal.position p h.0 in
-    let k : IsClosingOfDeal (abstract_deal d) c.loop-deal.position c.in_ok-closing.closing =
-    c.in_ok-closing.ensures.closing c.loop-deal.position d.lifo ((tt, c.from_end-end.ensures.remaining), c.from_end-end.ensures.walk) o.0 in
+    let k : IsClosingOfDeal (abstract_deal d) c.loop-deal.position c.in-Ok.closing =
+    c.in-Ok.ensures.closing c.loop-deal.position d.lifo ((tt, c.from_end-end.ensures.remaining), c.from_end-end.ensures.walk) o.0 in
     (abstract_deal d, record { closes = k; fresh = o.0; later = o.1 })
 
 pub loop-deal-preserved : goal.loop-deal-preserved
@@ -34,10 +34,10 @@ loop-deal-preserved c =
     let s = rw e at c.loop-deal.invariant.shares in
     let p : IsPosition c.loop-deal.position = rw (← c.position.view_is) c.position.invariant.1 in
     let o = old_lots (abstract_deal d) c.loop-deal.position p h.0 in
-    let k : IsClosingOfDeal (abstract_deal d) c.loop-deal.position c.in_ok-closing.closing =
-    c.in_ok-closing.ensures.closing c.loop-deal.position d.lifo ((tt, c.from_end-end.ensures.remaining), c.from_end-end.ensures.walk) o.0 in
+    let k : IsClosingOfDeal (abstract_deal d) c.loop-deal.position c.in-Ok.closing =
+    c.in-Ok.ensures.closing c.loop-deal.position d.lifo ((tt, c.from_end-end.ensures.remaining), c.from_end-end.ensures.walk) o.0 in
     let t : shares_of_lots c.apply.new.self ≡ shares_after_deal (shares_of_lots c.loop-deal.position) (abstract_deal d) =
-    c.in_ok-apply.ensures.shares (abstract_deal d) (record { closes = k; fresh = o.0; later = o.1 }) in
+    c.in-Ok-apply.ensures.shares (abstract_deal d) (record { closes = k; fresh = o.0; later = o.1 }) in
     let d' = abstract_deal d in
     let us = shares_of_lots c.loop-deal.position in
     let rest = map abstract_deal (drop (i + 1) deals) in

@@ -4,9 +4,7 @@ use Rattle.brk_model.specs.Statement.{amount_line, cash_move_rows_before_day, so
 use Rattle.brk_report_lines.specs.Written.{FailsWithinLines}
 use Rattle.brk_report_lines.proofs.Composed.{breaks_behind, breaks_off, then_all}
 use Rattle.brk_report.specs.CashWalk.{opening_and_cash_lines}
-use Rattle.brk_report.specs.StatementOutput.{IsLinesFaultOtherThanDamage}
-use Rattle.brk_report.proofs.Handing.{days_broke, on_err, wants}
-use Rattle.brk_report.proofs.Section.{in_broken}
+use Rattle.brk_report.proofs.Handing.{days_broke}
 use Rattle.brk_report.proofs.statements.parts.write_cash_part.Goals as goal
 
 pub returns-in_err-moved-clause-written : goal.returns-in_err-moved-clause-written
@@ -25,7 +23,7 @@ returns-in_err-write_line-clause-written g c = λ clean t holds.
     (breaks_behind (opening_and_cash_lines t c.args.account c.args.from c.args.to c.args.opening) (amount_line (codes "Closing") closing ∷ []) _ _ _ _ done.0
     (subst (λ (z : ℤ). FailsWithinLines (amount_line (codes "Closing") z ∷ []) (g.W.Write.contents c.write_cash_lines.new.writer)
     (g.W.Write.contents c.write_line.new.writer) c.in_err-write_line.field-0.0) done.2
-    (c.in_err-write_line.ensures.written (amount_line (codes "Closing") c.in_ok-moved.moved.total) c.amount_line.ensures.line (wants _ c.amount_line.ensures.fault))))
+    (c.in_err-write_line.ensures.written (amount_line (codes "Closing") c.in_ok-moved.moved.total) c.amount_line.ensures)))
 
 pub returns-clause-written : goal.returns-clause-written
 returns-clause-written g c = λ clean t holds.
@@ -35,14 +33,6 @@ returns-clause-written g c = λ clean t holds.
       then_all (opening_and_cash_lines t c.args.account c.args.from c.args.to c.args.opening) (amount_line (codes "Closing") closing ∷ []) _ _ _ done.0
           (subst (λ (z : ℤ). Appends (g.W.Write.contents c.write_cash_lines.new.writer) (g.W.Write.contents c.write_line.new.writer)
           (text_of_lines (amount_line (codes "Closing") z ∷ []))) done.2
-          (c.in_ok-write_line.ensures.written (amount_line (codes "Closing") c.in_ok-moved.moved.total) c.amount_line.ensures.line (wants _ c.amount_line.ensures.fault))),
+          (c.in_ok-write_line.ensures.written (amount_line (codes "Closing") c.in_ok-moved.moved.total) c.amount_line.ensures)),
       done.1,
     )
-
-pub returns-in_err-moved-clause-fault : goal.returns-in_err-moved-clause-fault
-returns-in_err-moved-clause-fault g c = on_err IsLinesFaultOtherThanDamage _ _ c.from_residual.ensures.1 c.in_err-moved.ensures.fault
-
-pub returns-in_err-write_line-clause-fault : goal.returns-in_err-write_line-clause-fault
-returns-in_err-write_line-clause-fault g c =
-    on_err IsLinesFaultOtherThanDamage _ _ c.from_residual-in_err-write_line.ensures.1
-    (in_broken _ _ _ _ (c.in_err-write_line.ensures.written (amount_line (codes "Closing") c.in_ok-moved.moved.total) c.amount_line.ensures.line (wants _ c.amount_line.ensures.fault)))

@@ -2,9 +2,7 @@ use Rattle.std.proofs.Common.{ℕ, [], ◌∷◌, ◌++◌, codes, decimal, leng
 use Rattle.brk_model.specs.Statement.{amount_line, lot_line, holding_rows_of_account}
 use Rattle.brk_report_lines.specs.Written.{WritesLines}
 use Rattle.brk_report_lines.proofs.Composed.{breaks_behind, breaks_off}
-use Rattle.brk_report.specs.StatementOutput.{IsLinesFaultOtherThanDamage}
-use Rattle.brk_report.proofs.Handing.{behind, breaks_as, line_first, on_err, wants}
-use Rattle.brk_report.proofs.Section.{in_broken, in_written}
+use Rattle.brk_report.proofs.Handing.{behind, breaks_as, line_first}
 use Rattle.brk_report.proofs.statements.parts.write_lot_part.Goals as goal
 
 pub returns-in_err-lots-clause-written : goal.returns-in_err-lots-clause-written
@@ -21,7 +19,7 @@ returns-in_err-write_line-clause-written g c = λ clean t holds.
     (amount_line (codes "Holdings") c.args.holdings
     ∷ (codes "Cash rows " ++ decimal c.args.cash ++ codes ", lots " ++ decimal (length (holding_rows_of_account t c.args.account))) ∷ []) _ _ _ _
     (c.in_ok-lots.ensures.written clean t holds).0
-    (line_first _ _ _ _ _ (c.in_err-write_line.ensures.written (amount_line (codes "Holdings") c.args.holdings) c.amount_line.ensures.line (wants _ c.amount_line.ensures.fault))))
+    (line_first _ _ _ _ _ (c.in_err-write_line.ensures.written (amount_line (codes "Holdings") c.args.holdings) c.amount_line.ensures)))
 
 pub returns-clause-written : goal.returns-clause-written
 returns-clause-written g c = λ clean t holds.
@@ -31,23 +29,7 @@ returns-clause-written g c = λ clean t holds.
     ∷ (codes "Cash rows " ++ decimal c.args.cash ++ codes ", lots " ++ decimal (length (holding_rows_of_account t c.args.account))) ∷ []) _ _ _ _ lots.0
     (behind (amount_line (codes "Holdings") c.args.holdings ∷ [])
     ((codes "Cash rows " ++ decimal c.args.cash ++ codes ", lots " ++ decimal (length (holding_rows_of_account t c.args.account))) ∷ []) _ _ _ _
-    (c.in_ok-write_line.ensures.written (amount_line (codes "Holdings") c.args.holdings) c.amount_line.ensures.line (wants _ c.amount_line.ensures.fault))
+    (c.in_ok-write_line.ensures.written (amount_line (codes "Holdings") c.args.holdings) c.amount_line.ensures)
     (subst (λ (n : ℕ). WritesLines ((codes "Cash rows " ++ decimal c.args.cash ++ codes ", lots " ++ decimal n) ∷ [])
     (g.W.Write.contents c.write_line.new.writer) (g.W.Write.contents c.write_line-2.new.writer) c.write_line-2.result) lots.1
-    (c.write_line-2.ensures.written (codes "Cash rows " ++ decimal c.args.cash ++ codes ", lots " ++ decimal c.in_ok-lots.lots) c.row_counts_line.ensures.line
-    (wants _ c.row_counts_line.ensures.fault))))
-
-pub returns-in_err-lots-clause-fault : goal.returns-in_err-lots-clause-fault
-returns-in_err-lots-clause-fault g c = on_err IsLinesFaultOtherThanDamage _ _ c.from_residual.ensures.1 c.in_err-lots.ensures.fault
-
-pub returns-in_err-write_line-clause-fault : goal.returns-in_err-write_line-clause-fault
-returns-in_err-write_line-clause-fault g c =
-    on_err IsLinesFaultOtherThanDamage _ _ c.from_residual-in_err-write_line.ensures.1
-    (in_broken _ _ _ _ (c.in_err-write_line.ensures.written (amount_line (codes "Holdings") c.args.holdings) c.amount_line.ensures.line (wants _ c.amount_line.ensures.fault)))
-
-pub returns-clause-fault : goal.returns-clause-fault
-returns-clause-fault g c =
-    in_written ((codes "Cash rows " ++ decimal c.args.cash ++ codes ", lots " ++ decimal c.in_ok-lots.lots) ∷ []) (g.W.Write.contents c.write_line.new.writer)
-    (g.W.Write.contents c.write_line-2.new.writer) c.write_line-2.result
-    (c.write_line-2.ensures.written (codes "Cash rows " ++ decimal c.args.cash ++ codes ", lots " ++ decimal c.in_ok-lots.lots) c.row_counts_line.ensures.line
-    (wants _ c.row_counts_line.ensures.fault))
+    (c.write_line-2.ensures.written (codes "Cash rows " ++ decimal c.args.cash ++ codes ", lots " ++ decimal c.in_ok-lots.lots) c.row_counts_line.ensures)))

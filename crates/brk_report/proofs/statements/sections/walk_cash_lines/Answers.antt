@@ -1,15 +1,13 @@
 use Rattle.std.proofs.Common.{◌∙◌, ℕ, ℤ, Err, Ok, arith, rules, sym, subst}
 use Rattle.sqlite.specs.Held.{state}
 use Rattle.sqlite.specs.State.{HasCleanDisk}
-use Rattle.brk_ref.specs.Rows.{abstract_cash_row}
 use Rattle.brk_model.specs.Tables.{Tables}
 use Rattle.brk_io.specs.declared.report_fault.LinesFault.{LinesFault}
 use Rattle.brk_store_transactions.specs.Holds.{HoldsRows}
 use Rattle.brk_store.specs.Walked.{cash_rows_in_span}
 use Rattle.brk_report.specs.CashWalk.{WritesLinesOfCashWalk}
 use Rattle.brk_report.specs.declared.statements.visitors.CashLineWriter.{CashLineWriter}
-use Rattle.brk_report.proofs.CashWalked.{first_broken, walk_all, walk_first}
-use Rattle.brk_report.proofs.Section.{known_end}
+use Rattle.brk_report.proofs.CashWalked.{walk_all, walk_first}
 use Rattle.brk_report.proofs.statements.sections.walk_cash_lines.Goals as goal
 
 pub returns-in-Ok-clause-written : goal.returns-in-Ok-clause-written
@@ -43,9 +41,3 @@ returns-in-Err-clause-written g c =
     subst (λ (z : ℕ). WritesLinesOfCashWalk (cash_rows_in_span c.args.account z c.args.last t) c.args.first c.args.opening before after (Err fault)) (c.nearest.ensures.below (omega arith))
     (subst (λ (x : ℤ). WritesLinesOfCashWalk (list t) c.args.first x before after (Err fault)) c.from.ensures
     (subst (λ (e : LinesFault). WritesLinesOfCashWalk (list t) c.args.first c.from.result before after (Err e)) (sym c.fault_from_walk_error.ensures) w)))
-
-pub returns-in-Err-clause-fault : goal.returns-in-Err-clause-fault
-returns-in-Err-clause-fault g c =
-    known_end g.S.Store _ _ abstract_cash_row (cash_rows_in_span c.args.account c.nearest.result c.args.last) _ _ _ _ c.visit_cash_rows.result c.visit_cash_rows.ensures.walked
-    (λ (p : CashLineWriter g.row.W.Denot) x e (q : CashLineWriter g.row.W.Denot) h. first_broken _ (g.W.Write.contents p.writer.now) (g.W.Write.contents q.writer.now) e h)
-    c.in-Err.stop c.in-Err.is c.fault_from_walk_error.result c.fault_from_walk_error.ensures

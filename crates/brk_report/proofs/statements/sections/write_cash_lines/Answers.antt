@@ -6,12 +6,11 @@ use Rattle.brk_report_lines.specs.Written.{FailsWithinFirstLines, FailsWithinLin
 use Rattle.brk_report_lines.proofs.Composed.{then_all}
 use Rattle.brk_store.specs.Walked.{cash_rows_in_span}
 use Rattle.brk_report.specs.CashWalk.{lines_of_cash_rows, opening_line_unless_written, progress_before_cash_rows}
-use Rattle.brk_report.specs.StatementOutput.{IsLinesFaultOtherThanDamage}
 use Rattle.brk_report.specs.declared.statements.visitors.CashProgress.{CashProgress}
 use Rattle.brk_report.proofs.CashWalked.{first_before, first_behind}
-use Rattle.brk_report.proofs.Handing.{on_err, opening_broke}
+use Rattle.brk_report.proofs.Handing.{opening_broke}
 use Rattle.brk_report.proofs.Opened.{end_of_walk, walk_count, walk_lines, walk_total}
-use Rattle.brk_report.proofs.Section.{in_broken, weaker}
+use Rattle.brk_report.proofs.Section.{weaker}
 use Rattle.brk_report.proofs.statements.sections.write_cash_lines.Goals as goal
 
 pub returns-in_err-moved-clause-written : goal.returns-in_err-moved-clause-written
@@ -60,10 +59,3 @@ returns-clause-written g c = λ clean t holds.
       ap (λ (p : CashProgress). p.count) rows.1 ∙ walk_count t a.account a.from a.to first last a.opening c.requires c.start_of_day.ensures c.end_of_day.ensures,
       ap (λ (p : CashProgress). p.total) rows.1 ∙ walk_total t a.account a.from a.to first last a.opening c.requires c.start_of_day.ensures c.end_of_day.ensures,
     )
-
-pub returns-in_err-moved-clause-fault : goal.returns-in_err-moved-clause-fault
-returns-in_err-moved-clause-fault g c = on_err IsLinesFaultOtherThanDamage _ _ c.from_residual.ensures.1 c.in_err-moved.ensures.fault
-
-pub returns-in_err-ensure_opening-clause-fault : goal.returns-in_err-ensure_opening-clause-fault
-returns-in_err-ensure_opening-clause-fault g c =
-    on_err IsLinesFaultOtherThanDamage _ _ c.from_residual-in_err-ensure_opening.ensures.1 (in_broken _ _ _ _ c.in_err-ensure_opening.ensures)

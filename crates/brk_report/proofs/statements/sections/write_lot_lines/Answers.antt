@@ -1,10 +1,10 @@
-use Rattle.std.proofs.Common.{[], ◌∷◌, map, refl, rules, sym, subst}
+use Rattle.std.proofs.Common.{map, refl, rules, sym, subst}
 use Rattle.std.specs.Io.KnownBytes.{Appends}
 use Rattle.brk_ref.specs.Rows.{abstract_holding_row}
 use Rattle.brk_model.specs.Statement.{text_of_lines, lot_line, holding_rows_of_account}
 use Rattle.brk_report_lines.specs.Written.{FailsWithinFirstLines}
 use Rattle.brk_report.specs.declared.statements.visitors.LineWriter.{LineWriter}
-use Rattle.brk_report.proofs.Section.{in_broken, known_end, written_all, written_first}
+use Rattle.brk_report.proofs.Section.{written_all, written_first}
 use Rattle.brk_report.proofs.statements.sections.write_lot_lines.Goals as goal
 
 pub returns-in-Ok-clause-written : goal.returns-in-Ok-clause-written
@@ -23,9 +23,3 @@ returns-in-Err-clause-written g c = λ clean t holds.
     c.fault_from_walk_error.result) (search rules)
     (subst (λ e. FailsWithinFirstLines (map lot_line (holding_rows_of_account t c.args.account)) (g.W.Write.contents c.args.writer.now)
     (g.W.Write.contents c.visit_lots.new.visitor.writer.now) e) (sym c.fault_from_walk_error.ensures) w)
-
-pub returns-in-Err-clause-fault : goal.returns-in-Err-clause-fault
-returns-in-Err-clause-fault g c =
-    known_end g.S.Store _ _ abstract_holding_row (λ t. holding_rows_of_account t c.args.account) _ _ _ _ c.visit_lots.result c.visit_lots.ensures.walked
-    (λ (p : LineWriter g.row.W.Denot) x e (q : LineWriter g.row.W.Denot) h. in_broken (lot_line (abstract_holding_row x) ∷ []) (g.W.Write.contents p.writer.now) (g.W.Write.contents q.writer.now) e h)
-    c.in-Err.stop c.in-Err.is c.fault_from_walk_error.result c.fault_from_walk_error.ensures

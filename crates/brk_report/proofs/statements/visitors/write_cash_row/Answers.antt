@@ -16,4 +16,4 @@ pub returns : goal.returns
 returns g c =
     let line = cash_row_line (abstract_cash_row c.args.item.now) in
     behind (opening_line_unless_written c.args.moved.is_opened c.args.moved.total) (line ∷ []) _ _ _ _ c.in_ok-ensure_opening.ensures
-    (c.write_line.ensures.written line c.line.ensures.line c.line.ensures.fault)
+    (c.write_line.ensures.written line c.line.ensures.line)

@@ -52,7 +52,7 @@ returns-in_err-write_parts g c =
             let is_head = (rw (c.in-Ok-Some.is, c.in-Ok-Some.field-0-is) at (c.head.ensures.read.answered mid)) t holds in
             reported (WritesStatement t c.args.account c.args.from c.args.to _ _) _ _ fails
             (states_fault t c.args.account c.in-Ok-Some.head c.args.from c.args.to days is_head _ _ _ (c.in_err-write_parts.ensures.written clean t (first.same_rows t holds)));
-        fault = reported_fault _ _ fails c.in_err-write_parts.ensures.fault;
+        fault = reported_fault _ _ fails;
         desk_unchanged = keeps_then g.S.Store c.args.desk.now c.head.new.self c.write_parts.new.desk first c.in_err-write_parts.ensures.keeps;
         unwritten = λ refusal is. absurd (no_refusal _ _ refusal fails is);
       };

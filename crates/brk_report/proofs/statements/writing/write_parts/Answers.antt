@@ -3,9 +3,7 @@ use Rattle.brk_model.specs.Statement.{sorted_cash_rows_of_account, cash_move_row
 use Rattle.brk_report_lines.specs.Written.{WritesLines}
 use Rattle.brk_report_lines.proofs.Composed.{breaks_before, breaks_behind}
 use Rattle.brk_report.specs.StatementParts.{cash_and_closing_lines, lot_and_total_lines, statement_header_lines}
-use Rattle.brk_report.specs.StatementOutput.{IsLinesFaultOtherThanDamage}
-use Rattle.brk_report.proofs.Handing.{behind, breaks_as, on_err}
-use Rattle.brk_report.proofs.Section.{in_broken}
+use Rattle.brk_report.proofs.Handing.{behind, breaks_as}
 use Rattle.brk_report.proofs.Keeping.{clean_then}
 use Rattle.brk_report.proofs.statements.writing.write_parts.Goals as goal
 
@@ -39,9 +37,3 @@ returns-clause-written g c = λ clean t holds.
     (subst (λ (n : ℕ). WritesLines (lot_and_total_lines t a.account a.head.now.holdings n) (g.W.Write.contents c.write_cash_part.new.writer)
     (g.W.Write.contents c.write_lot_part.new.writer) c.write_lot_part.result) done.1
     (c.write_lot_part.ensures.written clean t second)))
-
-pub returns-in_err-write_header-clause-fault : goal.returns-in_err-write_header-clause-fault
-returns-in_err-write_header-clause-fault g c = on_err IsLinesFaultOtherThanDamage _ _ c.from_residual.ensures.1 (in_broken _ _ _ _ c.in_err-write_header.ensures)
-
-pub returns-in_err-cash-clause-fault : goal.returns-in_err-cash-clause-fault
-returns-in_err-cash-clause-fault g c = on_err IsLinesFaultOtherThanDamage _ _ c.from_residual-in_err-cash.ensures.1 c.in_err-cash.ensures.fault

@@ -17,16 +17,20 @@ AreAll all t = all ≡ nat_le greatest_id (length (filter (λ (r : CashRow). is_
 abbrev AreNextAndAll : ℕ × Bool → Tables → Type 0
 AreNextAndAll number t = IsNext number.0 t × AreAll number.1 t
 
-pub returns-then-get-lt-GREATEST_MOVEMENT_COUNT-clause-read : goal.returns-then-get-lt-GREATEST_MOVEMENT_COUNT-clause-read
-returns-then-get-lt-GREATEST_MOVEMENT_COUNT-clause-read g c =
+pub returns-then-get-lt-GREATEST_MOVEMENT_COUNT : goal.returns-then-get-lt-GREATEST_MOVEMENT_COUNT
+returns-then-get-lt-GREATEST_MOVEMENT_COUNT g c =
     let next = c.in_ok-next.next in
     let low : next < greatest_id = rw c.get.ensures.value at c.if-get-lt-GREATEST_MOVEMENT_COUNT.true in
-    retold_of g.S.Store c.args.self.now c.next_cash_row_number.new.self next (next, false) IsNext AreNextAndAll
-    (λ t has is. (is, too_few t (state g.S.Store c.args.self.now).now next has is low)) c.in_ok-next.ensures.read
+    record {
+      read = retold_of g.S.Store c.args.self.now c.next_cash_row_number.new.self next (next, false) IsNext AreNextAndAll
+          (λ t has is. (is, too_few t (state g.S.Store c.args.self.now).now next has is low)) c.in_ok-next.ensures.read;
+    }
 
-pub returns-clause-read : goal.returns-clause-read
-returns-clause-read g c =
+pub returns : goal.returns
+returns g c =
     let next = c.in_ok-next.next in
     let all = c.in_ok-has_reached_limit.has_reached_limit in
-    read_with g.S.Store c.args.self.now c.next_cash_row_number.new.self c.has_most_movements.new.self next all (next, all) IsNext AreAll AreNextAndAll
-    (λ t is are. (is, are)) c.in_ok-next.ensures.read c.in_ok-has_reached_limit.ensures.read
+    record {
+      read = read_with g.S.Store c.args.self.now c.next_cash_row_number.new.self c.has_most_movements.new.self next all (next, all) IsNext AreAll AreNextAndAll
+          (λ t is are. (is, are)) c.in_ok-next.ensures.read c.in_ok-has_reached_limit.ensures.read;
+    }

@@ -14,8 +14,8 @@ use Rattle.brk_store.proofs.ByAges.{read_weaker}
 use Rattle.brk_store.proofs.ByIndex.{page_of_index}
 use Rattle.brk_store.proofs.store.Store.page_of_indexed_lots.Goals as goal
 
-pub returns-then-len-gt-MOST_SCANNED_LOTS-clause-read : goal.returns-then-len-gt-MOST_SCANNED_LOTS-clause-read
-returns-then-len-gt-MOST_SCANNED_LOTS-clause-read g c =
+pub returns-then-len-gt-MOST_SCANNED_LOTS : goal.returns-then-len-gt-MOST_SCANNED_LOTS
+returns-then-len-gt-MOST_SCANNED_LOTS g c =
     let conn = c.self.inside.conn in
     let end = c.read_page_of_ages.new.conn in
     let account = c.args.account in
@@ -23,10 +23,12 @@ returns-then-len-gt-MOST_SCANNED_LOTS-clause-read g c =
     let ages = ages_in (option_copied c.lots.result) in
     let shows = λ (page : Vec row.HoldingRow) (t : Tables). HasRowOfEachAge account symbol c.args.lifo c.args.skipped ages page.items t in
     let tells = λ (page : Vec row.HoldingRow) (t : Tables). map abstract_holding_row page.items ≡ page_after_skipped c.args.skipped (lot_rows_in_closing_order c.args.lifo account symbol t) in
-    subst (λ h. ReadPost g.S.Store h end c.read_page_of_ages.result tells) c.self.view_is
-    (read_weaker g.S.Store conn end c.read_page_of_ages.result shows tells
-    (λ clean on page t holds shown.
-    page_of_index g.S.Store conn c.self.inside.known c.in-Some.index (rw c.in-Some.is at c.self.invariant.1) c.if-self.true
-    (disk_was_clean_before_reads conn end (single_read_changes_nothing conn end c.read_page_of_ages.result shows c.read_page_of_ages.ensures.read) clean) on
-    account symbol c.args.lifo c.args.skipped ages c.lots.ensures page.items t holds shown)
-    c.read_page_of_ages.ensures.read)
+    record {
+      read = subst (λ h. ReadPost g.S.Store h end c.read_page_of_ages.result tells) c.self.view_is
+          (read_weaker g.S.Store conn end c.read_page_of_ages.result shows tells
+          (λ clean on page t holds shown.
+          page_of_index g.S.Store conn c.self.inside.known c.in-Some.index (rw c.in-Some.is at c.self.invariant.1) c.if-self.true
+          (disk_was_clean_before_reads conn end (single_read_changes_nothing conn end c.read_page_of_ages.result shows c.read_page_of_ages.ensures.read) clean) on
+          account symbol c.args.lifo c.args.skipped ages c.lots.ensures page.items t holds shown)
+          c.read_page_of_ages.ensures.read);
+    }

@@ -1,6 +1,6 @@
 use Rattle.brk_store.proofs.ByAges.{then_read}
 use Rattle.brk_store.proofs.store.Store.page_of_lots.Goals as goal
 
-pub returns-clause-read : goal.returns-clause-read
-returns-clause-read g c =
-    then_read g.S.Store c.args.self.now c.prepare_index.new.self c.page_of_indexed_lots.new.self c.page_of_indexed_lots.result _ c.prepare_index.ensures c.page_of_indexed_lots.ensures.read
+pub returns : goal.returns
+returns g c =
+    record { read = then_read g.S.Store c.args.self.now c.prepare_index.new.self c.page_of_indexed_lots.new.self c.page_of_indexed_lots.result _ c.prepare_index.ensures c.page_of_indexed_lots.ensures.read }

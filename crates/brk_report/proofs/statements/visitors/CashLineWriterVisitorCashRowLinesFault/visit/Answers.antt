@@ -1,7 +1,7 @@
 use Rattle.std.proofs.Common.{◌≡◌, ◌+◌, ◌∙◌, ℤ, true, false, ap, refl, rules, sym}
 use Rattle.std.specs.Prelude.{nat_lt}
 use Rattle.brk_ref.specs.Rows.{abstract_cash_row}
-use Rattle.brk_money.specs.declared.fault.Fault.TheVariants as fault
+use Rattle.brk_money.specs.declared.fault.CallFault.TheVariants as call
 use Rattle.brk_report_lines.specs.Written.{FailsWithinFirstLines}
 use Rattle.brk_io.specs.declared.report_fault.LinesFault.TheVariants.{Desk}
 use Rattle.brk_report_lines.proofs.Composed.{appends_none}
@@ -16,7 +16,7 @@ pub returns-in_err-total-clause-stops : goal.returns-in_err-total-clause-stops
 returns-in_err-total-clause-stops g c =
     let self = c.args.self.now in
     let item = c.args.item.now in
-    let is : c.in_err-total.field-0.0 ≡ Desk fault.Store = let same = c.in_err-total.ensures.fault in cc in
+    let is : c.in_err-total.field-0.0 ≡ Desk call.Store = let same = c.in_err-total.ensures.fault in cc in
     on_err (FailsWithinFirstLines (lines_of_cash_row (nat_lt item.stamp self.first) self.moved (abstract_cash_row item)) _ _) _ _ c.from_residual.ensures.1 (none_first _ _ _ is)
 
 pub returns-then-is_before_stamp-clause-takes : goal.returns-then-is_before_stamp-clause-takes
