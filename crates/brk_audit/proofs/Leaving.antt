@@ -153,7 +153,7 @@ own_run r run later same apart =
     append_nil [] = refl
     append_nil (x ∷ xs) = ap (λ ys. x ∷ ys) (append_nil xs)
 
--- each position's deals are those of the base
+-- the base has the same deals of each position
 abbrev pub AreDealt : Base → List TradeRow → Type 0
 AreDealt base rs = AllByRecursion (λ r. map deal_of_completed_row (filter (has_same_position r) rs) ≡ deals_of_position (completed_trades base) r.account r.symbol) rs
 

@@ -1,5 +1,5 @@
 -- The lots of the trades of a database: `Form` and `Status` permit their replay, and `Lots` holds
--- exactly if its lots are those of the tables.
+-- exactly if the tables have the same lots.
 use Rattle.std.proofs.Common.{◌≡◌, ℕ, zero, suc, ◌<◌, ◌≤◌, ◌==◌, ◌&&◌, ◌||◌, not, Bool, true, false, cond, List, [], ◌∷◌, refl, sym, ap, ◌∙◌, subst, map}
 use Rattle.std.proofs.Common.{filter, length, get_or, arith, inl, inr, Option, Some, None, Bor}
 use Rattle.std.specs.Prelude.{bytes_eq, nat_lt, nat_le, IsSome}
@@ -224,7 +224,7 @@ sums_alike t r f rs h =
         (λ i. cond (numbers_back r.account u.account i && texts_back r.symbol u.symbol i) (f (record (deal_of_completed_row u) { stamp = sym m i })) 0)
         ∙ parted (u.account == r.account) (bytes_eq u.symbol r.symbol) (f (deal_of_trade (trade_of_row t u)))
 
--- in sorted rows a position's deals are those of the base
+-- sorted rows have the same deals of a position as the base
 pub dealt : (t : Tables) → IsWellFormedBySomeSchema t → satisfies_status_condition t ≡ true → (rs : List TradeRow) → IsPermutation (completed_trade_rows t) rs
     → Sorted is_before_by_position rs → (r : TradeRow)
     → map deal_of_completed_row (filter (has_same_position r) rs) ≡ deals_of_position (completed_trades (base_of_tables t)) r.account r.symbol
@@ -340,7 +340,7 @@ all_moved P xs ys p h = from_places P ys (All-permutation P xs ys p (by_place P 
 pub clash_moved : (rs ss : List TradeRow) → IsPermutation rs ss → IsDistinct has_same_id_or_stamp rs → IsDistinct has_same_id_or_stamp ss
 clash_moved rs ss p d = IsDistinct-IsPermutation has_same_id_or_stamp (λ r s. (λ i. numbers_back r.id s.id i || numbers_back r.stamp s.stamp i)) rs ss p d
 
--- the rows are those of the tables
+-- the tables have these rows
 pub rows_moved : (rows now : List trade.TradeRow) (t : Tables) (done held : List (Bor trade.TradeRow)) → now ≡ rows → held ≡ done
     → t.trades ≡ map abstract_trade_row rows → IsPermutation (filter is_completed_trade_row (map abstract_trade_row now)) (map seen done)
     → IsPermutation (completed_trade_rows t) (map seen held)

@@ -129,7 +129,7 @@ module _ {S R : Type 0} (g : Ghosts S) (creates : OpenRelation S) (closes : Clos
             (whole.0, subst (λ (after : Base). Represents g ran.new after) (sym whole.1) led.1);
       }
 
--- the ending and the content before the `ok` of an audit are those of a batch
+-- an audit has the ending and the content of a batch before its `ok`
 module _ {S R : Type 0} (g : Ghosts S) (creates opens : OpenRelation S) (closes : CloseRelation S) (machine : Bor R) where
   same_run : (t : ℕ) (io : InputAndOutput) (end reached : Ending) (mid : Option Text) → end ≡ reached → io.after ≡ mid
       → ExecutesJobInMemory machine (job.Batch None (Some t)) (record { input = io.input; before = io.before; after = mid }) reached

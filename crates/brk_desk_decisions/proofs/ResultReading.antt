@@ -1,4 +1,4 @@
--- The facts of a trade's parties, security, summary and posting together are those of its result.
+-- The parties, the security, the summary and the posting of a trade make the facts of its result.
 use Rattle.std.proofs.Common.{◌≡◌, ◌==◌, ◌∙◌, ℕ, Option, Some, None, ap, find, option_map, refl, subst, sym}
 use Rattle.std.specs.Prelude.{IfSome}
 use Rattle.brk_model.specs.Joins.{account_row_with_id, security_row_with_symbol, trade_row_with_id}

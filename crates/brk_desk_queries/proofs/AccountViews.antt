@@ -32,8 +32,8 @@ use Rattle.brk_view_theorems.proofs.Worths.{same_position}
 abbrev pub AreAccountWorthsOfCustomer : ℕ → List AccountWorth → Tables → Type 0
 AreAccountWorthsOfCustomer customer worths t = worths ≡ map (worth_of_account t) (filter (λ a. a.customer == customer) t.accounts)
 
--- The records of the view are those of `customer_position_view`, if `worths` are the balances and
--- market values of the accounts of the selected customers.
+-- The view has the records of `customer_position_view`, if `worths` are the balances and market
+-- values of the accounts of the selected customers.
 abbrev pub IsViewOfAccountWorths : List AccountWorth → View → Type 0
 IsViewOfAccountWorths worths view = (t : Tables) (test : Customer → Bool)
     → worths ≡ map (worth_of_account t) (filter (λ a. list_any (λ c. test c && (c.id == a.customer)) t.customers) t.accounts) → records_of_view view ≡ customer_position_view t test

@@ -62,7 +62,7 @@ follows trade settled moved came t f base books sound s = record {
 
 -- ---- the views
 
--- The records of the view are those of `trade_lookup_view` for `test`, if `found` are the first 20
+-- The view has the records of `trade_lookup_view` for `test`, if `found` are the first 20
 -- trades that satisfy `test`, with their related rows.
 abbrev pub IsViewOfSelectedTrades : (Tables → TradeRow → Bool) → List LookedUp → View → Type 0
 IsViewOfSelectedTrades test found view =

@@ -73,7 +73,7 @@ pieces : {X Y Z : Type 0} (f : Y → Z) (g : ℕ → List Y) (lot : X → ℕ) (
 pieces f g lot [] = refl
 pieces f g lot (x ∷ xs) = ap (λ ys. map f (g (lot x)) ++ ys) (pieces f g lot xs) ∙ sym (map-append f (g (lot x)) (flat_map g (map lot xs)))
 
--- they are those of all these lots
+-- the changes of the touched lots, lot by lot, are the changes of all these lots
 by_lot : (base : Base) (trade : ℕ) → BooksInvariant base → AuditInvariant base
     → flat_map (λ r. stamped_changes_of_lot (sheets base) r.lot) (filter (λ r. r.trade == trade) (sheets base).holding_history) ≡ changes_of_touched_lots (sheets base) trade
 by_lot base trade books sound =

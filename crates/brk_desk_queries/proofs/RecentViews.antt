@@ -23,7 +23,7 @@ use Rattle.brk_view_theorems.proofs.RecentRows.{same_recent}
 use Rattle.brk_desk_queries.specs.QueryResults.{AnswersQueryAsModel}
 use Rattle.brk_desk_queries.proofs.Tested.{answered, carried_as, is_missing, is_there, refused}
 
--- The records of the view are those of `recent_trades_view`, for each account of which `trades` and
+-- The view has the records of `recent_trades_view`, for each account of which `trades` and
 -- `history` are the last ten trades and their history.
 abbrev pub IsViewOfRecentTrades : List read_trade.TradeRow → List read.HistoryRow → View → Type 0
 IsViewOfRecentTrades trades history view = (t : Tables) (account : ℕ) → map abstract_trade_row trades ≡ last_ten_trade_rows t account

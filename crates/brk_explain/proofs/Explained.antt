@@ -1,4 +1,4 @@
--- The lines that were read are those of the explanation.
+-- The explanation has the lines that were read.
 use Rattle.std.proofs.Common.{◌≡◌, ◌∙◌, ℕ, ◌==◌, List, ◌++◌, Option, Some, None, Result, Ok, Err, length, map, refl, sym, ap, inl, inr}
 use Rattle.std.specs.Prelude.{bytes_eq}
 use Rattle.std.specs.Io.KnownBytes.{Appends}

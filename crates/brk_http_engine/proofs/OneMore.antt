@@ -7,7 +7,7 @@ use Rattle.serde_json.specs.Data.{string}
 use Rattle.serde_json.specs.View.{view}
 use Rattle.serde_json.specs.declared.value.Value as value
 
--- the images of one list are those of the images of the first elements of another, and one more
+-- one more element of each list keeps the equality of their images, the second by two functions
 pub one_more_mapped_twice : {X Y C D : Type 0} (g : Y → D) (h : C → D) (f : X → C) (xs : List X) (i : ℕ) (x : X) (was now : List Y) (y : Y) → i < length xs → now ≡ was ++ y ∷ []
     → map g was ≡ map h (map f (take i xs)) → g y ≡ h (f (get_or xs i x)) → map g now ≡ map h (map f (take (i + 1) xs))
 one_more_mapped_twice g h f xs i x was now y lt added same next =

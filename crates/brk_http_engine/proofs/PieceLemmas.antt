@@ -10,7 +10,7 @@ use Rattle.brk_money.specs.declared.refusal.Limit.TheVariants as limit
 use Rattle.brk_money.specs.declared.status.Status.TheVariants as status
 use Rattle.brk_model_http.specs.Routes.{split_at_byte}
 
--- the fields of a refusal are those of its text
+-- the text of a refusal has its fields
 pub refusal_parts : (refusal : Refusal) → split_at_byte 44 (refusal_text refusal) ≡ refusal_fields refusal
 unfolding split_at_byte digits
 refusal_parts BadText = refl

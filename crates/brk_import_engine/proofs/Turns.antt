@@ -1,4 +1,4 @@
--- The records that are read in sequence are those of the text.
+-- A reader returns the records of the text in sequence.
 use Rattle.std.proofs.Common.{◌≡◌, ◌≤◌, ◌+◌, ◌-◌, ◌⊎◌, ◌++◌, ◌∷◌, [], ℕ, List, Bool, true, false, cond, sym, ap, ◌∙◌, refl, length, arith, inl, inr, ◌==◌}
 use Rattle.std.specs.Prelude.{None, Some, zero, suc}
 use Rattle.std.proofs.lemmas.List.{append-nil}

@@ -33,7 +33,7 @@ paid_is d ls w =
 abbrev both : ℕ → ℕ → Values
 both b s = record { buy_value = b; sell_value = s }
 
--- the values of the walk are those of the deal
+-- the walk and the deal have the same closing values
 pub values_are : (d : Deal) (ls : List Lot) → IsPositionInAnyOrder ls → let walk = list_reversed_if_lifo d.is_lifo ls in let k = closed_share_count d.side d.qty walk in
     closing_values_by_side d.side (k * d.price) (cost_of_first_shares k walk) ≡ closing_values_of_deal d (shares_of_lots ls)
 values_are d ls w =

@@ -1,4 +1,4 @@
--- The rows of a lot are those of its deals that change its quantity.
+-- A lot has a row for each deal that changes its quantity, and no other.
 use Rattle.std.proofs.Common.{◌≡◌, ℕ, List, [], ◌∷◌, filter, refl, ap}
 use Rattle.std.specs.Prelude.{flat_map}
 use Rattle.brk_model.specs.Derived.{deals_of_position}

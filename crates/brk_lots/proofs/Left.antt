@@ -288,7 +288,7 @@ abbrev pub lots_after : Deal → List Lot → List Lot
 lots_after d ls = lots_after_touches (touches_of_first_shares (closed_share_count d.side d.qty ls) (list_reversed_if_lifo d.is_lifo ls)) ls
     ++ run_lots (d.qty - closed_share_count d.side d.qty ls) (opened_share d)
 
--- they are a position, and their shares are those of the deal upon the shares before
+-- the lots after a deal are a position, and their shares are the shares before after the deal
 pub booked_lots : (d : Deal) (ls : List Lot) → IsPosition ls → AreOpenedByOtherTrades d.trade ls → AreOpenedBeforeStamp d.stamp ls
     → IsPosition (lots_after d ls) × (shares_of_lots (lots_after d ls) ≡ shares_after_deal (shares_of_lots ls) d)
 booked_lots d ls p f a =

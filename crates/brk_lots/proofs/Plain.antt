@@ -31,7 +31,7 @@ lots_each s us (l ∷ ls) one sides counts =
     let here : model.lot_of_share us (share_of_lot l) ≡ abstract_lot l = rw qty refl in
     rw here (ap (λ (ms : List model.Lot). abstract_lot l ∷ ms) (lots_each s us ls one sides.1 counts.1))
 
--- a position's lots are those of its shares
+-- the shares of a position have its lots
 pub lots_walk : (ls : List Lot) → IsPositionInAnyOrder ls → lots_of_shares (shares_of_lots ls) ≡ map abstract_lot ls
 unfolding lots_of_shares
 lots_walk ls w =

@@ -19,7 +19,7 @@ use Rattle.brk_model_theorems.proofs.KeyLaws.{matches, row_kept, keeps, found_ag
 
 -- ---- kept rows stay
 
--- The stored rows of `after` are those of `base`, followed by others.
+-- The stored rows of `after` begin with the stored rows of `base`.
 abbrev pub Grows : Base → Base → Type 0
 Grows base after = (more : List Kept) × (after.kept ≡ base.kept ++ more)
 

@@ -85,7 +85,7 @@ next-above base now = above base.last now
 
 -- ---- an accepted step
 
--- The command is not refused, and the reply and the base after it are those of an accepted command.
+-- The model accepts the command with this reply and this base after it.
 pub record Accepted (base : Base) (now : ℕ) (command : Command) (reply : Reply) (after : Base) : Type 0 where
   pub passes : refusal_of_command base now command ≡ None
   pub told : reply ≡ reply_to_command base (stamp_of_next_command base now) command

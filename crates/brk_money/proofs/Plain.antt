@@ -33,7 +33,7 @@ three_of (a ∷ b ∷ []) h = absurd (omega arith)
 three_of (a ∷ b ∷ c ∷ []) h = refl
 three_of (a ∷ b ∷ c ∷ d ∷ ds) h = absurd (omega arith)
 
--- a whole number, a point and two digits are those of an amount
+-- a whole number, a point and two digits are the text of an amount
 pub plain_joined : (bs : List ℕ) (k u : ℕ) → length (drop k bs) ≡ 3 → take k bs ≡ decimal u → get_or (drop k bs) 0 0 ≡ 46
     → 48 ≤ get_or (drop k bs) 1 0 → get_or (drop k bs) 1 0 ≤ 57 → 48 ≤ get_or (drop k bs) 2 0 → get_or (drop k bs) 2 0 ≤ 57
     → bs ≡ unsigned_cents_text (u * 100 + (get_or (drop k bs) 1 0 - 48) * 10 + (get_or (drop k bs) 2 0 - 48))

@@ -12,7 +12,7 @@ use Rattle.brk_report.specs.CashWalk.{lines_of_cash_row, lines_of_cash_rows, ope
 use Rattle.brk_report.specs.declared.statements.visitors.CashProgress.{CashProgress}
 use lib.IntN.{+ℤ_assoc, +ℤ_idr}
 
--- The lines of rows and of further rows are those of all.
+-- The lines of all rows are the lines of the first, then the lines of the further rows.
 pub lines_of_cash_rows-append : (first : ℕ) (p : CashProgress) (xs ys : List CashRow)
     → lines_of_cash_rows first p (xs ++ ys) ≡ lines_of_cash_rows first p xs ++ lines_of_cash_rows first (progress_after_cash_rows first p xs) ys
 lines_of_cash_rows-append first p [] ys = refl

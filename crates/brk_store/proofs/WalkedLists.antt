@@ -1,4 +1,4 @@
--- The rows that a walk passes are those of the definitions, in their order.
+-- A walk passes the rows of the definitions, in their order.
 use Rattle.std.proofs.Common.{◌≡◌, ℕ, ◌==◌, Bool, true, false, not, ◌&&◌, ◌||◌, cond, List, [], ◌∷◌, refl, sym, ap, subst, ◌∙◌, filter, pos, Ordering, Less, Equal, int_cmp, arith, inl, inr, Result}
 use Rattle.std.specs.Prelude.{⊤, bytes_eq, nat_le, nat_lt}
 use Rattle.std.specs.List.{AllByRecursion}

@@ -232,7 +232,7 @@ module _ (rows : List HoldingRow) (account : ℕ) (symbol : Text) where
               more,
             )
 
-    -- the lots that an index gives are those of the table
+    -- an index gives the lots of the table
     lots_are : (index : LotIndex) → IsIndexOf index rows → lots_of (lots_at index account symbol) ≡ lots_oldest_first (filter is_lot rows)
     lots_are index is =
         let es = lots_at index account symbol in

@@ -31,8 +31,8 @@ rows_third t db has = (
   λ w none. absurd (let e : true ≡ false = sym (of_third w) ∙ none in cc),
 )
 
--- the tables of a desk of the third schema are those of a desk of any that they are by their names
--- and columns
+-- a database with the definitions of the third schema has those of any schema whose tables it has by
+-- their names and columns
 narrowed : (schema : Schema) (db : Database) → HasDeskDefinitions third_schema db → HasDeskDefinitions schema db
 narrowed schema db m = record {
   sound = m.sound;

@@ -166,7 +166,7 @@ passing_books_held g store t holds passes texts =
 pub adopted_books : {S : Type 0} (g : Ghosts S) (old new : Held S) → AdoptPost g old new (Ok tt) → ConnectionTablesWithDeskNamesAreDeskTables g old → (base : Base) × Represents g new base
 adopted_books g old new is defined = let a = is.adopted defined in (base_of_tables a.0, passing_books_held g new a.0 a.1 a.2 a.3)
 
--- the books that a move leaves are those of the rows that passed
+-- a move leaves the books of the rows that passed
 upgraded_base : (schema : known.Schema) (t : Tables) → PassesAudit (abstract_schema schema) t → base_of_tables (sheets (base_of_tables t)) ≡ base_of_tables t
 upgraded_base First t p = let m = upgraded_rows (abstract_schema First) t first_narrower p in sym (ap base_of_tables m.tables) ∙ m.base
 upgraded_base Second t p = let m = upgraded_rows (abstract_schema Second) t second_narrower p in sym (ap base_of_tables m.tables) ∙ m.base

@@ -1,4 +1,4 @@
--- The rows of a database are those of at most one set of tables.
+-- At most one set of tables has the rows of a database.
 use Rattle.std.proofs.Common.{Bool, true, false, ◌≡◌, ℕ, List, [], ◌∷◌, Some, Ordering, Less, Equal, Greater, map, slice_get, refl, sym, ap, subst, ◌∙◌, inl, inr}
 use Rattle.std.specs.Ordering.{ordering_reverse}
 use Rattle.std.specs.Cmp.{IsTotalOrder}

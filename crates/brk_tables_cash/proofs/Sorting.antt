@@ -23,11 +23,11 @@ unfolding sort_by
 map_sorted before after f [] h = refl
 map_sorted before after f (x ∷ xs) h = ap (insert_by after (f x)) (map_sorted before after f xs h) ∙ map_put before after f x (sort_by before xs) h
 
--- the rows in code by stamp are those of the model by stamp
+-- rows in code and their abstract rows have one order by stamp
 pub rows_in_order : (rows : List code.OldCashRow) → map abstract_old_cash_row (sort_by_key (λ (r : code.OldCashRow). r.stamp) rows) ≡ sort_by_key (λ (r : OldCashRow). r.stamp) (map abstract_old_cash_row rows)
 rows_in_order rows = sym (map_sorted (λ (a b : code.OldCashRow). nat_lt a.stamp b.stamp) (λ (a b : OldCashRow). nat_lt a.stamp b.stamp) abstract_old_cash_row rows (λ a b. refl))
 
--- the postings of rows, in turn, are those of the rows by stamp
+-- the postings sorted by stamp are the postings of the rows sorted by stamp
 pub posted_in_turn : (t : Tables) (xs : List OldCashRow)
     → postings_sorted_by_stamp (map (posting_of_cash_transaction_row t) xs)
     ≡ map (posting_of_cash_transaction_row t) (sort_by_key (λ (r : OldCashRow). r.stamp) xs)

@@ -116,7 +116,7 @@ module _ (text : List ℕ) (p : Parsed) (name : Name) (is : first text ≡ Ok p)
   never true c e is = let f = rw e at is in cc
   never false c e is = let f = rw (e, unlisted) at is in cc
 
-  -- the columns that it shows are those of the table
+  -- it shows the columns of the table
   pub shown_columns : (c : Compiled) → understood schema text ≡ Ok c → column_names c ≡ map (λ c. c.name) table.columns
   shown_columns c is = go (nat_lt 2000 (length all)) refl (nat_lt 0 (length all)) refl
     where

@@ -1,4 +1,4 @@
--- The sums in the tables of a base that satisfies the books invariant are those of their rows.
+-- In a base that satisfies the books invariant each sum in the tables is the sum of its rows.
 use Rattle.std.proofs.Common.{◌≡◌, ◌≢◌, ℕ, ◌+◌, ◌==◌, zero, suc, Bool, true, false, not, cond, List, [], ◌∷◌, refl, sym, ◌∙◌, ap, subst, length, map, filter}
 use Rattle.std.proofs.Common.{arith, ℤ, pos, negsuc, neg_ℤ, ◌+ℤ◌, Some, None}
 use Rattle.std.specs.Prelude.{bytes_eq, find, flat_map, is_some, sum_by}

@@ -189,7 +189,7 @@ lots_read base account symbol books =
     (All-sort (λ t. (t.account == account) ≡ true) earlier P (of_its_account done account symbol))
     (All-sort (λ t. bytes_eq t.symbol symbol ≡ true) earlier P (of_its_symbol done account symbol))))
 
--- their shares are those of the account in the symbol
+-- the rows have the shares of the account in the symbol
 shares_held : (rows : List HoldingRow) → shares_of_lots (map lot_of_row rows) ≡ flat_map shares_of_lot_row rows
 shares_held [] = refl
 shares_held (r ∷ rows) = ap (λ shares. shares_of_lot_row r ++ shares) (shares_held rows)

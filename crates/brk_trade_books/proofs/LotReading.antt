@@ -1,4 +1,4 @@
--- The shares of an account in a symbol are those of its lots, the oldest first.
+-- The shares of an account in a symbol are the shares of its lots, the oldest first.
 use Rattle.std.proofs.Common.{◌≡◌, ℕ, ◌+◌, ◌==◌, ◌&&◌, Bool, true, false, not, cond, List, [], ◌∷◌, ◌++◌, refl, sym, ◌∙◌, ap, map, filter, replicate, arith, ℤ, pos, negsuc, zero, suc, ◌+ℤ◌}
 use Rattle.std.specs.Prelude.{⊤, flat_map, nat_lt, bytes_eq}
 use Rattle.std.specs.List.{AllByRecursion}
@@ -101,7 +101,7 @@ opened_by_deals : (id : ℕ) (ts : List Trade) → NonePass (λ u. u.id == id) t
 opened_by_deals id [] h = tt
 opened_by_deals id (t ∷ ts) h = (h.0, opened_by_deals id ts h.1)
 
--- shares that are runs of the trades' deals are those of the trades' lots
+-- shares that are runs of the trades' deals are the shares of the trades' lots
 rows_told : (whole : List Share) (ts : List Trade) (shares : List Share) → IdsApart ts → AreRuns (map deal_of_trade ts) shares
     → AllByRecursion (λ t. lot_quantity whole t.id ≡ lot_quantity shares t.id) ts → flat_map (λ t. shares_of_lot_row (row_upon whole t)) ts ≡ shares
 rows_told whole [] shares d r h = sym r

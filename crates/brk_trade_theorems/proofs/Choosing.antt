@@ -1,4 +1,4 @@
--- The rows that a text update selects are those of the trades that the model selects.
+-- A text update selects the rows of the trades that the model selects.
 use Rattle.std.proofs.Common.{◌≡◌, ℕ, ◌==◌, ◌&&◌, Bool, true, false, List, refl, ap, ◌∙◌, map, filter, take, Option, Some, None}
 use Rattle.std.specs.Prelude.{bytes_eq}
 use Rattle.std.specs.Option.{option_map_or}

@@ -3,12 +3,12 @@ use Rattle.std.proofs.Common.{◌≡◌, ◌∙◌, ◌+◌, ◌<◌, ◌++◌, 
 use Rattle.std.proofs.lemmas.List.{flat_map_more, map_more, map_push, take_more}
 use Rattle.std.specs.Prelude.{flat_map}
 
--- the images of one list are those of the first elements of another, and one more
+-- one more element of each list keeps the equality of their images
 pub one_more : {X Y D : Type 0} (g : Y → D) (f : X → D) (xs : List X) (i : ℕ) (x : X) (was now : List Y) (y : Y) → i < length xs → now ≡ was ++ y ∷ []
     → map g was ≡ map f (take i xs) → g y ≡ f (get_or xs i x) → map g now ≡ map f (take (i + 1) xs)
 one_more g f xs i x was now y lt added same next = ap (map g) added ∙ map_push g was y ∙ (λ k. same k ++ next k ∷ []) ∙ sym (map_more f xs i x lt)
 
--- the images of one list are those of the images of the first elements of another, and one more
+-- the same, the second by two functions
 pub one_more_mapped_twice : {X Y C D : Type 0} (g : Y → D) (h : C → D) (f : X → C) (xs : List X) (i : ℕ) (x : X) (was now : List Y) (y : Y) → i < length xs → now ≡ was ++ y ∷ []
     → map g was ≡ map h (map f (take i xs)) → g y ≡ h (f (get_or xs i x)) → map g now ≡ map h (map f (take (i + 1) xs))
 one_more_mapped_twice g h f xs i x was now y lt added same next =

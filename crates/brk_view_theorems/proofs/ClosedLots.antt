@@ -131,7 +131,7 @@ rows_sorted base t front back k =
     All-each [] = tt
     All-each (v ∷ vs) = (passes_closing t us v, All-each vs)
 
--- which are those of the lots that the deal touches
+-- a deal of a trade has one row for each lot that it touches
 rows_touched : (t : Trade) (front : List Trade) → InOrder front → AllByRecursion (Precedes t) front
     → map (row_by (left_by front) (deal_of_trade t)) (filter (moves_lot t (left_by front)) front) ≡ map (holding_history_row t.id) (touches_of_existing_lots (deal_of_trade t) (left_by front))
 rows_touched t front o h =

@@ -133,7 +133,7 @@ opened_by_deals id (t ∷ ts) h = (h.0, opened_by_deals id ts h.1)
 abbrev lot_run : Lot → List Share
 lot_run l = replicate (unsigned_abs l.qty) (share_of_lot l)
 
--- shares that are runs of the trades' deals are those of the trades' lots
+-- shares that are runs of the trades' deals are the shares of the trades' lots
 runs_told : (whole : List Share) (ts : List Trade) (shares : List Share) → IdsApart ts → AreRuns (map deal_of_trade ts) shares
     → AllByRecursion (λ t. lot_quantity whole t.id ≡ lot_quantity shares t.id) ts → flat_map (λ t. lot_run (lot_upon whole t)) ts ≡ shares
 runs_told whole [] shares d r h = sym r

@@ -1,4 +1,4 @@
--- The changes of a lot in the tables are those of the deals of its trades, in order.
+-- The tables have a change of a lot for each deal of its trades that changes it, in order.
 use Rattle.std.proofs.Common.{◌≡◌, ◌<◌, ℕ, ◌==◌, ◌&&◌, Bool, true, false, not, cond, List, [], ◌∷◌, ◌++◌, refl, sym, ◌∙◌, ap, subst, map, filter, arith}
 use Rattle.std.specs.Prelude.{⊤, flat_map, nat_lt}
 use Rattle.std.specs.List.{AllByRecursion}
@@ -119,7 +119,7 @@ rows_of_lot base v a =
     F : Trade → List HoldingHistoryRow
     F u = filter (of_lot v.id) (L u)
 
--- by the stamps of the trades that made them they are those of the deals
+-- by the stamps of the trades that made them, the changes follow the deals
 pub in_turn_of : (base : Base) (v : Trade) → BooksInvariant base → Among base v → lot_changes_by_stamp (sheets base) v.id ≡ lot_rows_with_quantity_change (completed_trades base) v
 in_turn_of base v books a =
     ap (sort_by (by (made_at base))) (rows_of_lot base v a)

@@ -1,4 +1,4 @@
--- The accounts of a customer who was found are those of all customers that pass the test.
+-- The customers that pass the test have the accounts of a customer who was found.
 use Rattle.std.proofs.Common.{◌≡◌, ℕ, ◌==◌, List, [], ◌∷◌, Bool, true, false, not, cond, Option, Some, None, refl, sym, ap, ◌∙◌, find}
 use Rattle.std.specs.Prelude.{◌&&◌, ◌||◌, bytes_eq, is_none, is_some}
 use Rattle.std.specs.List.{AllByRecursion, list_any}

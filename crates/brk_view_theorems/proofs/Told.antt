@@ -31,7 +31,7 @@ use Rattle.brk_view_theorems.proofs.ClosingLaws.{closes_as_told}
 use Rattle.brk_view_theorems.proofs.SameTrade.{found_then, id_of}
 use Rattle.brk_view_theorems.proofs.Amounts.{settles_as_told}
 
--- ---- the shares before a result are those of the base
+-- ---- the shares before a result are the shares of the base
 
 goes_before : (m n : ℕ) → m < n → nat_lt m n ≡ true
 goes_before m n h = grind (arith, nat_tests)

@@ -178,8 +178,7 @@ of_touched trade lot (r ∷ rows) = by_test (of_touched trade lot rows) (r.trade
     by_test ih true = λ i. numbers_back lot r.lot i || ih i
     by_test ih false = ih
 
--- the changes of each lot that a trade touched, lot after lot, are those of all these lots as they
--- stand
+-- the changes of each lot that a trade touched, lot after lot, are the changes of all these lots
 pub touched_by_lot : (base : Base) (trade : ℕ) → BooksInvariant base → AuditInvariant base
     → flat_map (λ lot. filter (λ r. r.lot == lot) (sheets base).holding_history) (map (λ r. r.lot) (filter (λ r. r.trade == trade) (sheets base).holding_history))
     ≡ filter (λ r. trade_touches_lot (sheets base) trade r.lot) (sheets base).holding_history

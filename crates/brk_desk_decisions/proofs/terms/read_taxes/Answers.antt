@@ -13,7 +13,7 @@ use Rattle.brk_store.specs.ReadSequences.{single_read_changes_nothing}
 use Rattle.brk_store.proofs.Sequences.{failed_after, none_read, read_with, unchanged_after}
 use Rattle.brk_desk_decisions.proofs.terms.read_taxes.Goals as goal
 
--- the taxes that were read are those of the first rows, which are a customer's
+-- the first rows, which are a customer's, have the taxes that were read
 abbrev FirstTaxes : ℕ → List ref.CustomerTax → List Tax → ℕ → Tables → Type 0
 FirstTaxes customer rows taxes i t =
     (map abstract_customer_tax rows ≡ filter (λ (r : CustomerTax). r.customer == customer) t.customer_taxes)

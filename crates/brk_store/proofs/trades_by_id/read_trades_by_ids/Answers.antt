@@ -14,7 +14,7 @@ use Rattle.brk_store.proofs.TradesFound.{one_more, some_missing}
 use Rattle.std.proofs.lemmas.Result.{err_from_is_err_and}
 use Rattle.brk_store.proofs.trades_by_id.read_trades_by_ids.Goals as goal
 
--- the trades that were read are those of the first ids
+-- the trades that were read have the first ids
 abbrev FirstTrades : List ℕ → List row.TradeRow → ℕ → Tables → Type 0
 FirstTrades ids trades i t = map (λ r. Some (abstract_trade_row r)) trades ≡ map (trade_row_with_id t) (take i ids)
 
