@@ -11,6 +11,7 @@ use crate::words::check_words;
 use brk_cli_args::{Job, UsageFault};
 use brk_cli_exit::Ending;
 use brk_io::write_all_bytes;
+use brk_money::Fault;
 use brk_report::ReportFault;
 use brk_store::Store;
 use sqlite::Alter;
@@ -74,10 +75,10 @@ fn execute_in_existing_file<S: Alter, F: DeskFiles<Desk = Store<S>>, R: Read + D
     match check_words(rt.alloc(), job) {
         Ok(Ok(())) => {
             let opened = files.open(path);
-            execute_on_file(rt, files, opened, job, input, output)
+            execute_on_file(rt, files, path, opened, job, input, output)
         }
         Ok(Err(refusal)) => Ending::Statement(ReportFault::Refused(refusal)),
-        Err(fault) => Ending::Open(fault),
+        Err(_) => Ending::Open(Fault::Memory),
     }
 }
 
@@ -95,7 +96,7 @@ fn execute_job_at_place<S: Alter, F: DeskFiles<Desk = Store<S>>, R: Read + Drop,
         Place::Memory => execute_in_memory(rt, job, input, output),
         Place::FileOrNewFile(path) => {
             let opened = files.open_or_create(path);
-            execute_on_file(rt, files, opened, job, input, output)
+            execute_on_file(rt, files, path, opened, job, input, output)
         }
         Place::ExistingFile(path) => execute_in_existing_file(rt, files, path, job, input, output),
     }

@@ -9,14 +9,15 @@ mod file_calls;
 mod http;
 mod jobs;
 mod machine;
+mod served;
 mod statements;
 
-use std::alloc::Global;
 use std::test::Fail;
 
 /// Runs the test `name`, which is the name of its function. Returns `None` if no test has this
 /// name, and otherwise the result of the test.
-pub fn run_test(alloc: Global, name: &str) -> Option<Result<(), Fail>> {
+pub fn run_test(rt: &HostRuntime, name: &str) -> Option<Result<(), Fail>> {
+    let alloc = rt.alloc();
     let tested = match name {
         "desk_creation_recovers_from_crashes" => crashes::desk_creation_recovers_from_crashes(
             alloc,
@@ -42,6 +43,8 @@ pub fn run_test(alloc: Global, name: &str) -> Option<Result<(), Fail>> {
         "a_store_fault_is_the_last_reply" => http::streams::a_store_fault_is_the_last_reply(alloc),
         "a_failing_disk_leaves_whole_statement_lines" =>
             statements::a_failing_disk_leaves_whole_statement_lines(alloc),
+        "a_served_desk_recovers_from_disk_faults" =>
+            served::a_served_desk_recovers_from_disk_faults(rt),
         _ => return None,
     };
     Some(tested)

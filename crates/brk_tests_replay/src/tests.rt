@@ -2,7 +2,6 @@
 
 use crate::failed::OutOfMemory;
 use crate::replay::append_output_line;
-use std::alloc::Global;
 use std::process::Termination;
 use std::test::Fail;
 
@@ -17,9 +16,9 @@ fn run_test_without_database(rt: &HostRuntime, name: &str) -> Option<Result<(), 
 
 // Runs the test `name` of `brk_tests` or of `brk_tests_files`. Returns `None` if no test of these
 // crates has this name, and otherwise the result of the test.
-fn run_test_over_desks(alloc: Global, name: &str) -> Option<Result<(), Fail>> {
-    match brk_tests::run_test(alloc, name) {
-        None => brk_tests_files::run_test(alloc, name),
+fn run_test_over_desks(rt: &HostRuntime, name: &str) -> Option<Result<(), Fail>> {
+    match brk_tests::run_test(rt.alloc(), name) {
+        None => brk_tests_files::run_test(rt, name),
         tested => tested,
     }
 }
@@ -29,7 +28,7 @@ fn run_test_over_desks(alloc: Global, name: &str) -> Option<Result<(), Fail>> {
 fn run_test(rt: &HostRuntime, name: &str) -> Option<Result<(), Fail>> {
     match brk_tests_surface::run_test(rt, name) {
         None => match run_test_without_database(rt, name) {
-            None => run_test_over_desks(rt.alloc(), name),
+            None => run_test_over_desks(rt, name),
             tested => tested,
         },
         tested => tested,
