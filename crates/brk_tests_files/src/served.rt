@@ -282,8 +282,8 @@ fn expect_batch_completed(
 }
 
 // Serves `STREAMS` streams of all rows on the desk in the files, and checks what
-// `expect_rows_accepted_again` checks. Returns the greatest number of rows that a stream has replies
-// 200 to, and true if the service was done without opening the files again. If the files cannot be
+// `expect_rows_accepted_again` checks. Returns the greatest number of rows that a stream has
+// replies 200 to, and true if the service was done without opening the files again. If the files cannot be
 // opened, nothing is served, and the number is 0. Fails also if a socket of this machine cannot be
 // used, or if memory runs out.
 fn expect_rows_served(
@@ -324,8 +324,8 @@ fn expect_service_recovered(
     Ok(is_done)
 }
 
-// Serves the rows with a failure of `stop` at each call of its file in turn, until a service is done
-// without opening its files again, and checks each service (`expect_service_recovered`). Files that
+// Serves the rows with a failure of `stop` at each call of its file in turn, until a service is
+// done without opening its files again, and checks each service (`expect_service_recovered`). Files that
 // are opened again fail at once if `goes_on` is true, and otherwise never.
 fn expect_each_service_recovered(
     rt: &HostRuntime,
