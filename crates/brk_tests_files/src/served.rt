@@ -219,11 +219,12 @@ fn serve_rows(
     Ok(Some((ending, count_accepted_rows(rt.alloc(), peers)?)))
 }
 
-// Checks that a stream that has a reply to each row follows each stream that has not, or that the
-// service ended with `Open(Store)` and no stream was accepted after it. Returns the greatest number
-// of rows that a stream has replies 200 to. Fails if not all of this is so.
+// Checks that a stream that has not a reply 200 to each row is followed by one that has or, if files
+// that are opened again fail (`goes_on`), by the end of the service with `Open(Store)`. Returns the
+// greatest number of rows that a stream has replies 200 to. Fails if not all of this is so.
 fn expect_rows_accepted_again(
     stop: MachineCrash,
+    goes_on: bool,
     ending: &Ending,
     counts: &[usize],
 ) -> Result<usize, Fail> {
@@ -235,8 +236,12 @@ fn expect_rows_accepted_again(
     )?;
     let (mut most, mut is_whole) = (0usize, true);
     for count in counts {
-        let may_be = *count == ROWS.len() || is_whole || (*count == 0 && ends_with_fault);
-        fail_unless(may_be, stop, "no stream with all replies after the fault")?;
+        let may_be = if goes_on {
+            *count == 0 && ends_with_fault
+        } else {
+            *count == ROWS.len()
+        };
+        fail_unless(is_whole || may_be, stop, "neither all replies nor the end")?;
         is_whole = *count == ROWS.len();
         most = most.max(*count);
     }
@@ -289,12 +294,13 @@ fn expect_batch_completed(
 fn expect_rows_served(
     rt: &HostRuntime,
     stop: MachineCrash,
+    goes_on: bool,
     files: &FailingFiles,
 ) -> Result<(usize, bool), Fail> {
     let requests = requests_of_rows(rt.alloc())?;
     match serve_rows(rt, files, requests.as_str())? {
         Some((ending, counts)) => {
-            let accepted = expect_rows_accepted_again(stop, &ending, &counts)?;
+            let accepted = expect_rows_accepted_again(stop, goes_on, &ending, &counts)?;
             let is_done = matches!(&ending, Ending::Done);
             Ok((accepted, is_done && files.openings.get() == 1))
         }
@@ -302,31 +308,34 @@ fn expect_rows_served(
     }
 }
 
-// Serves the rows on the desk in the files `start`, which fail by `stop` when they are opened first
-// and by `later` at all later times. Checks what `expect_rows_served` and `expect_batch_completed`
+// Serves the rows on the desk in the files `start`, which fail by `stop` when they are opened first.
+// When they are opened again they fail at once if `goes_on` is true, and otherwise never. Checks what `expect_rows_served` and `expect_batch_completed`
 // check. Returns true if the service was done without opening the files again. Fails if not all of
 // this is so, if a socket of this machine cannot be used, or if memory runs out.
 fn expect_service_recovered(
     rt: &HostRuntime,
     stop: MachineCrash,
-    later: MachineCrash,
+    goes_on: bool,
     start: &Held,
     tables: &[String],
 ) -> Result<bool, Fail> {
     let alloc = rt.alloc();
+    let later = MachineCrash {
+        calls: if goes_on { 0 } else { u64::MAX },
+        ..stop
+    };
     let held = Held {
         log: start.log.clone()?,
         db: start.db.clone()?,
     };
     let files = FailingFiles::new(alloc, held, stop, later);
-    let (accepted, is_done) = expect_rows_served(rt, stop, &files)?;
+    let (accepted, is_done) = expect_rows_served(rt, stop, goes_on, &files)?;
     expect_batch_completed(alloc, stop, &files.into_held(), accepted, tables)?;
     Ok(is_done)
 }
 
 // Serves the rows with a failure of `stop` at each call of its file in turn, until a service is
-// done without opening its files again, and checks each service (`expect_service_recovered`). Files that
-// are opened again fail at once if `goes_on` is true, and otherwise never.
+// done without opening its files again, and checks each service (`expect_service_recovered`).
 fn expect_each_service_recovered(
     rt: &HostRuntime,
     stop: MachineCrash,
@@ -334,12 +343,9 @@ fn expect_each_service_recovered(
     start: &Held,
     tables: &[String],
 ) -> Result<(), Fail> {
-    let later = MachineCrash {
-        calls: if goes_on { 0 } else { u64::MAX },
-        ..stop
-    };
     for calls in 0..MOST_CALLS {
-        if expect_service_recovered(rt, MachineCrash { calls, ..stop }, later, start, tables)? {
+        let stop = MachineCrash { calls, ..stop };
+        if expect_service_recovered(rt, stop, goes_on, start, tables)? {
             return Ok(());
         }
     }
