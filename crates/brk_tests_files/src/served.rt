@@ -219,9 +219,10 @@ fn serve_rows(
     Ok(Some((ending, count_accepted_rows(rt.alloc(), peers)?)))
 }
 
-// Checks that a stream that has not a reply 200 to each row is followed by one that has or, if files
-// that are opened again fail (`goes_on`), by the end of the service with `Open(Store)`. Returns the
-// greatest number of rows that a stream has replies 200 to. Fails if not all of this is so.
+// Checks that a stream that has not a reply 200 to each row is followed by one that has or, if
+// files that are opened again fail (`goes_on`), by the end of the service with `Open(Store)`.
+// Returns the greatest number of rows that a stream has replies 200 to. Fails if not all of this is
+// so.
 fn expect_rows_accepted_again(
     stop: MachineCrash,
     goes_on: bool,
@@ -288,9 +289,9 @@ fn expect_batch_completed(
 
 // Serves `STREAMS` streams of all rows on the desk in the files, and checks what
 // `expect_rows_accepted_again` checks. Returns the greatest number of rows that a stream has
-// replies 200 to, and true if the service was done without opening the files again. If the files cannot be
-// opened, nothing is served, and the number is 0. Fails also if a socket of this machine cannot be
-// used, or if memory runs out.
+// replies 200 to, and true if the service was done without opening the files again. If the files
+// cannot be opened, nothing is served, and the number is 0. Fails also if a socket of this machine
+// cannot be used, or if memory runs out.
 fn expect_rows_served(
     rt: &HostRuntime,
     stop: MachineCrash,
@@ -308,10 +309,11 @@ fn expect_rows_served(
     }
 }
 
-// Serves the rows on the desk in the files `start`, which fail by `stop` when they are opened first.
-// When they are opened again they fail at once if `goes_on` is true, and otherwise never. Checks what `expect_rows_served` and `expect_batch_completed`
-// check. Returns true if the service was done without opening the files again. Fails if not all of
-// this is so, if a socket of this machine cannot be used, or if memory runs out.
+// Serves the rows on the desk in the files `start`, which fail by `stop` when they are opened
+// first. When they are opened again they fail at once if `goes_on` is true, and otherwise never.
+// Checks what `expect_rows_served` and `expect_batch_completed` check. Returns true if the service
+// was done without opening the files again. Fails if not all of this is so, if a socket of this
+// machine cannot be used, or if memory runs out.
 fn expect_service_recovered(
     rt: &HostRuntime,
     stop: MachineCrash,
