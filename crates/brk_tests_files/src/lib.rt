@@ -2,22 +2,22 @@
 //! the calls of a file that a sale makes, streams that come in pieces or end early, readers and
 //! writers that fail. The command `test` of a transcript runs one of them. A test fails if what it
 //! checks is not so, and also if a desk for it cannot be set up or memory runs out.
+//! `brk_tests_replay` uses their files and crashes.
 #![tactic(auto)]
 
-mod crashes;
+pub mod crashes;
 mod file_calls;
-mod http;
-mod jobs;
-mod machine;
-mod served;
+pub mod http;
+pub mod jobs;
+pub mod machine;
 mod statements;
 
+use std::alloc::Global;
 use std::test::Fail;
 
 /// Runs the test `name`, which is the name of its function. Returns `None` if no test has this
 /// name, and otherwise the result of the test.
-pub fn run_test(rt: &HostRuntime, name: &str) -> Option<Result<(), Fail>> {
-    let alloc = rt.alloc();
+pub fn run_test(alloc: Global, name: &str) -> Option<Result<(), Fail>> {
     let tested = match name {
         "desk_creation_recovers_from_crashes" => crashes::desk_creation_recovers_from_crashes(
             alloc,
@@ -43,8 +43,6 @@ pub fn run_test(rt: &HostRuntime, name: &str) -> Option<Result<(), Fail>> {
         "a_store_fault_is_the_last_reply" => http::streams::a_store_fault_is_the_last_reply(alloc),
         "a_failing_disk_leaves_whole_statement_lines" =>
             statements::a_failing_disk_leaves_whole_statement_lines(alloc),
-        "a_served_desk_recovers_from_disk_faults" =>
-            served::a_served_desk_recovers_from_disk_faults(rt),
         _ => return None,
     };
     Some(tested)
