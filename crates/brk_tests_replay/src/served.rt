@@ -32,6 +32,7 @@ const MOST_CALLS: u64 = 10_000;
 
 // The two files of a desk in memory: the bytes that they have while they are closed, how they fail
 // when they are opened next, and at all later times, and how often they were opened.
+#[derive(Drop)]
 struct FailingFiles {
     alloc: Global,
     held: Cell<Held>,
@@ -55,7 +56,8 @@ impl FailingFiles {
 
     // Returns the bytes of the files, which must be closed.
     fn into_held(self) -> Held {
-        self.held.into_inner()
+        let FailingFiles { held, .. } = self;
+        held.into_inner()
     }
 
     // Stores the bytes that the files have when they are opened next, or none if memory runs out.
