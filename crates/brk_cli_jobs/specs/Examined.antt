@@ -29,11 +29,16 @@ HasCommit log = IsLog log × ((i : ℕ) × (frame_start log (i + 1) ≤ length l
 abbrev pub HasDatabaseHeader : List ℕ → Type 0
 HasDatabaseHeader file = take 16 file ≡ codes "SQLite format 3" ++ 0 ∷ []
 
--- No database was made yet: the file is empty, or it is what a creation that was stopped left, one
--- byte 0, or a part of the first page that begins with a byte 0, beside the log of this creation.
+-- The file is what a creation that was stopped may leave beside its log: any one byte, or a part of
+-- the first page that begins with a byte 0.
+abbrev pub IsPartOfFirstPage : List ℕ → Type 0
+IsPartOfFirstPage file = (length file ≡ 1) ⊎ ((slice_index file 0 ≡ 0) × (length file ≤ 4096))
+
+-- No database was made yet: the file is empty or one byte 0, or it is what a creation that was
+-- stopped left beside its log.
 abbrev pub IsUnfinished : List ℕ → List ℕ → Type 0
 IsUnfinished file log =
-    (length file ≡ 0) ⊎ ((slice_index file 0 ≡ 0) × (length file ≤ 4096) × ((length file ≡ 1) ⊎ BeginsDatabase log))
+    (length file ≡ 0) ⊎ ((length file ≡ 1) × (slice_index file 0 ≡ 0)) ⊎ (IsPartOfFirstPage file × BeginsDatabase log)
 
 -- The file has a database, or none was made yet and its log has no commit.
 abbrev pub MayBeOpened : List ℕ → List ℕ → Type 0

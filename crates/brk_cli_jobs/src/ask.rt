@@ -1,8 +1,7 @@
-ghost use Rattle.std.specs.Prelude.{◌≡◌, Err, IfOk, None, OnErr, map, string_bytes};
+ghost use Rattle.std.specs.Prelude.{◌≡◌, IfOk, None, map, string_bytes};
 ghost use Rattle.brk_cli_jobs.specs.Jobs.{WritesView};
 ghost use Rattle.brk_cli_jobs.specs.Words.{without_value};
 ghost use Rattle.brk_model.specs.Ask as model;
-ghost use Rattle.brk_money.specs.declared.fault.Fault.TheVariants.{Memory};
 
 use crate::pipe::PipeWriter;
 use brk_ask::{Form, write_asked};
@@ -11,19 +10,19 @@ use brk_desk::{Desk, parse_query};
 use brk_money::{Fault, Planned};
 use brk_ref::borrow_texts;
 use sqlite::Alter;
-use std::alloc::Global;
+use std::alloc::{AllocError, Global};
 use std::io::Write;
 
 /// Refuses what `execute_ask_job` refuses before it asks the desk: an unknown view and wrong
 /// arguments.
-pub(crate) fn check_query(alloc: Global, view: &str, arguments: &[String]) -> Planned<()>
-    ensures read { IfOk result (λ read. read ≡ without_value (model.parse_query view.now (map string_bytes arguments.now))) }
-    ensures fault { OnErr result (result ≡ Err Memory) }
+pub(crate) fn check_query(alloc: Global, view: &str, arguments: &[String]) -> Planned<(), AllocError>
+    ensures { IfOk result (λ read. read ≡ without_value (model.parse_query view.now (map string_bytes arguments.now))) }
 {
     let arguments = borrow_texts(alloc, arguments)?;
-    match parse_query(alloc, view, &arguments)? {
-        Ok(_) => Ok(Ok(())),
-        Err(refusal) => Ok(Err(refusal)),
+    match parse_query(alloc, view, &arguments) {
+        Ok(Ok(_)) => Ok(Ok(())),
+        Ok(Err(refusal)) => Ok(Err(refusal)),
+        Err(_) => Err(AllocError),
     }
 }
 

@@ -74,10 +74,10 @@ fn is_unfinished(file: &[u8], log: &[u8]) -> bool
     if file.is_empty() {
         return true;
     }
-    if file[0] != 0 || file.len() > 4096 {
-        return false;
+    if file.len() == 1 && file[0] == 0 {
+        return true;
     }
-    file.len() == 1 || log_begins_database(log)
+    (file.len() == 1 || (file[0] == 0 && file.len() <= 4096)) && log_begins_database(log)
 }
 
 fn may_be_opened(file: &[u8], log: &[u8]) -> bool

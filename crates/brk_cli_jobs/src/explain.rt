@@ -1,8 +1,7 @@
-ghost use Rattle.std.specs.Prelude.{◌≡◌, Err, IfOk, None, OnErr, map, string_bytes};
+ghost use Rattle.std.specs.Prelude.{◌≡◌, IfOk, None, map, string_bytes};
 ghost use Rattle.brk_cli_jobs.specs.Jobs.{WritesExplanation};
 ghost use Rattle.brk_cli_jobs.specs.Words.{without_value};
 ghost use Rattle.brk_model_explain.specs.Explain as model;
-ghost use Rattle.brk_money.specs.declared.fault.Fault.TheVariants.{Memory};
 
 use crate::pipe::PipeWriter;
 use brk_cli_exit::Ending;
@@ -12,13 +11,12 @@ use brk_money::{Fault, Planned};
 use brk_ref::borrow_texts;
 use brk_report::ReportFault;
 use sqlite::Alter;
-use std::alloc::Global;
+use std::alloc::{AllocError, Global};
 use std::io::Write;
 
 /// Refuses what `execute_explain_job` refuses before it reads the desk.
-pub(crate) fn check_request(alloc: Global, words: &[String]) -> Planned<()>
-    ensures read { IfOk result (λ read. read ≡ without_value (model.read_explain_request (map string_bytes words.now))) }
-    ensures fault { OnErr result (result ≡ Err Memory) }
+pub(crate) fn check_request(alloc: Global, words: &[String]) -> Planned<(), AllocError>
+    ensures { IfOk result (λ read. read ≡ without_value (model.read_explain_request (map string_bytes words.now))) }
 {
     let words = borrow_texts(alloc, words)?;
     match parse_explain(alloc, &words)? {

@@ -11,6 +11,7 @@ use crate::words::check_words;
 use brk_cli_args::{Job, UsageFault};
 use brk_cli_exit::Ending;
 use brk_io::write_all_bytes;
+use brk_money::Fault;
 use brk_report::ReportFault;
 use brk_store::Store;
 use sqlite::Alter;
@@ -77,7 +78,7 @@ fn execute_in_existing_file<S: Alter, F: DeskFiles<Desk = Store<S>>, R: Read + D
             execute_on_file(rt, files, opened, job, input, output)
         }
         Ok(Err(refusal)) => Ending::Statement(ReportFault::Refused(refusal)),
-        Err(fault) => Ending::Open(fault),
+        Err(_) => Ending::Open(Fault::Memory),
     }
 }
 

@@ -3,8 +3,7 @@
 A sending is a batch over the file of a desk, or over none. Its lines, and its tables after each of its rows, come from undisturbed
 runs. After a disturbance, `settled` checks of the file:
 
-- an audit prints `ok`, or `damaged: schema` if no desk was made and no row was acknowledged; a file of one byte of garbage is refused,
-  and unchanged;
+- an audit prints `ok`, or `damaged: schema` if no desk was made and no row was acknowledged;
 - the tables are those after the acknowledged rows, or after one row more: none is lost, and none is booked in part;
 - KEPT has the line of each acknowledged row, as it was printed;
 - the batch sent again is answered with the same lines, `again` for exactly the rows that were booked, and leaves the same tables.
@@ -23,7 +22,6 @@ TOP = HERE.parents[2]
 CLOCK = "1709251200000"
 WELL = (0, "")
 SCHEMA = (1, "brk: damaged: schema\n")
-STORE = (3, "brk: fault: store\n")
 SECONDS = 120
 
 
@@ -205,23 +203,8 @@ class Sending:
         expect(again == wanted, f"sent again: `again` for rows {again}, and not {wanted}")
         expect(dump_of(path) == self.dump(len(self.rows)), "sent again: other tables")
 
-    def is_garbage(self, path):
-        """Whether a creation left one byte that is not the 0 that it wrote: brk does not take it for its own."""
-        content = found(path).get("d", b"")
-        return self.is_new and len(content) == 1 and content != b"\0"
-
-    def refused(self, path):
-        """Checks that nothing is changed of a file that is refused. Somebody deletes it then."""
-        before = found(path)
-        audit, batch = self.program.audit(path), self.send(path)
-        expect(audit.how == batch.how == STORE and batch.output == b"", f"audit and batch of a byte: {audit.how}, {batch.how}")
-        expect(found(path) == before, "a byte that is refused is changed")
-        removed(path)
-
     def settled(self, path, rows):
         """Checks what a run left that acknowledged so many rows; returns how many more are booked."""
-        if rows == 0 and self.is_garbage(path):
-            self.refused(path)
         booked = self.audited(path, rows)
         self.retried(path, booked)
         return booked - rows
