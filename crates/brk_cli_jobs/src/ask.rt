@@ -19,10 +19,12 @@ pub(crate) fn check_query(alloc: Global, view: &str, arguments: &[String]) -> Pl
     ensures { IfOk result (λ read. read ≡ without_value (model.parse_query view.now (map string_bytes arguments.now))) }
 {
     let arguments = borrow_texts(alloc, arguments)?;
-    match parse_query(alloc, view, &arguments) {
-        Ok(Ok(_)) => Ok(Ok(())),
-        Ok(Err(refusal)) => Ok(Err(refusal)),
-        Err(_) => Err(AllocError),
+    let Ok(read) = parse_query(alloc, view, &arguments) else {
+        return Err(AllocError);
+    };
+    match read {
+        Ok(_) => Ok(Ok(())),
+        Err(refusal) => Ok(Err(refusal)),
     }
 }
 

@@ -1,8 +1,8 @@
 //! A file and its log, examined before the database opens them.
 
-ghost use Rattle.std.specs.Prelude.{◌≡◌, ◌↔◌, ◌+◌, ◌≤◌, length, IsTrue};
+ghost use Rattle.std.specs.Prelude.{◌≡◌, ◌↔◌, ◌+◌, ◌<◌, ◌≤◌, length, IsTrue};
 ghost use Rattle.sqlite_wal.specs.Format.{be32};
-ghost use Rattle.brk_cli_jobs.specs.Examined.{BeginsDatabase, HasCommit, HasCommitMarkAt, HasDatabaseHeader, IsLog, IsUnfinished, MayBeOpened};
+ghost use Rattle.brk_cli_jobs.specs.Examined.{BeginsDatabase, HasCommit, HasCommitMarkAt, HasDatabaseHeader, IsLog, IsPartOfFirstPage, IsUnfinished, MayBeOpened};
 
 use std::io::{ErrorKind, Read};
 use std::{fs, io};
@@ -68,6 +68,13 @@ fn has_database_header(file: &[u8]) -> bool
     file.starts_with(b"SQLite format 3\0")
 }
 
+fn is_part_of_first_page(file: &[u8]) -> bool
+    requires { 0 < length file.now }
+    ensures { IsTrue result ↔ IsPartOfFirstPage file.now }
+{
+    file.len() == 1 || (file[0] == 0 && file.len() <= 4096)
+}
+
 fn is_unfinished(file: &[u8], log: &[u8]) -> bool
     ensures { IsTrue result ↔ IsUnfinished file.now log.now }
 {
@@ -77,7 +84,7 @@ fn is_unfinished(file: &[u8], log: &[u8]) -> bool
     if file.len() == 1 && file[0] == 0 {
         return true;
     }
-    (file.len() == 1 || (file[0] == 0 && file.len() <= 4096)) && log_begins_database(log)
+    is_part_of_first_page(file) && log_begins_database(log)
 }
 
 fn may_be_opened(file: &[u8], log: &[u8]) -> bool
