@@ -1,6 +1,6 @@
-use Rattle.std.proofs.Common.{rules, ◌≡◌, ℕ, ◌+◌, ◌-◌, ◌*◌, ◌/◌, ◌<◌, ◌≤◌, length, arith, IsTrue, true, subst, sym}
+use Rattle.std.proofs.Common.{rules, ◌≡◌, ℕ, ◌+◌, ◌-◌, ◌*◌, ◌/◌, ◌<◌, ◌≤◌, length, arith, subst}
 use Rattle.sqlite_wal.specs.Format.{be32}
-use Rattle.brk_cli_jobs.specs.Examined.{HasCommit, HasCommitMarkAt, IsLog, frame_start}
+use Rattle.brk_cli_jobs.specs.Examined.{HasCommitMarkAt, IsLog, frame_start}
 use Rattle.brk_cli_jobs.proofs.Frames.{frame_counted, frame_within}
 use Rattle.brk_cli_jobs.proofs.examining.log_has_commit.Goals as goal
 

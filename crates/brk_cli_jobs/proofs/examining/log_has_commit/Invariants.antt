@@ -1,4 +1,4 @@
-use Rattle.std.proofs.Common.{ℕ, ◌*◌, ◌+◌, ◌<◌}
+use Rattle.std.proofs.Common.{ℕ, ◌<◌}
 use Rattle.brk_cli_jobs.specs.Examined.{HasCommitMarkAt, frame_start}
 use Rattle.brk_cli_jobs.proofs.examining.log_has_commit.Given as goal
 
