@@ -201,7 +201,8 @@ use Rattle.brk_tables_sql.specs.Desk.{{integer_column, text_column, nullable_int
 use Rattle.brk_tables_sql.proofs.Meant.{{meant, inserts, updates_or, deletes_or, reads_or}}
 use Rattle.brk_tables_sql.proofs.Pick.{{selection, whole_page}}
 use Rattle.brk_tables_sql.proofs.Scoped.{{over_one, column_is}}
-use Rattle.brk_tables_sql.proofs.Asked.{{Ask, compares, lacks, single, also, IsAsked, IsPlain, asks_plainly}}
+use Rattle.brk_tables_sql.proofs.Conditions.{{compares, lacks, single, also}}
+use Rattle.brk_tables_sql.proofs.Asked.{{Ask, IsAsked, IsPlain, asks_plainly}}
 use Rattle.brk_tables_sql.proofs.Texts.{{read}}
 use Rattle.brk_tables_schema.specs.Shapes.{{{table}}}
 '''

@@ -1,7 +1,6 @@
 -- The condition `Form` from its groups of checks.
 use Rattle.std.proofs.Common.{◌≡◌, suc, Bool, true, List, [], ◌∷◌, refl, sym, ◌∙◌, ap, map, filter, length}
 use Rattle.std.specs.Prelude.{◌↔◌, is_none, nat_le, IsTrue, IfOk, Result, Ok, Err}
-use Rattle.brk_money.specs.declared.fault.Fault.{Fault}
 use Rattle.std.specs.Cmp.{both_ways}
 use Rattle.std.specs.List.{list_all, range_with_len}
 use Rattle.std.specs.Option.{option_map_or}
@@ -140,6 +139,6 @@ form_told schema s =
 pub told : (a b : Bool) → a ≡ b → IsTrue a ↔ IsTrue b
 told a b p = ((λ e. sym p ∙ e), (λ e. p ∙ e))
 
-pub each_told : (r : Result Bool Fault) (h b : Bool) → IfOk r (λ x. x ≡ b) → b ≡ h → IfOk r (λ x. IsTrue x ↔ IsTrue h)
+pub each_told : {E : Type 0} (r : Result Bool E) (h b : Bool) → IfOk r (λ x. x ≡ b) → b ≡ h → IfOk r (λ x. IsTrue x ↔ IsTrue h)
 each_told (Ok x) h b e p = told x h (e ∙ p)
 each_told (Err f) h b e p = tt

@@ -1,13 +1,17 @@
 -- The explanation has the lines that were read.
-use Rattle.std.proofs.Common.{◌≡◌, ◌∙◌, ℕ, ◌==◌, List, ◌++◌, Option, Some, None, Result, Ok, Err, length, map, refl, sym, ap, inl, inr}
+use Rattle.std.proofs.Common.{◌≡◌, ◌∙◌, ℕ, ◌==◌, List, ◌++◌, Option, Some, None, Result, Ok, Err, length, map, refl, sym, ap, subst, inl, inr}
 use Rattle.std.specs.Prelude.{bytes_eq}
 use Rattle.std.specs.Io.KnownBytes.{Appends}
 use Rattle.std.proofs.lemmas.Bool.{eqb-true}
 use Rattle.std.proofs.lemmas.List.{append_assoc}
 use Rattle.std.proofs.lemmas.Slice.Eq.{bytes_eq-Decides}
+use Rattle.brk_money.specs.Kinds.{fault_of_call}
 use Rattle.brk_money.specs.Spelling.{Text}
+use Rattle.brk_money.specs.declared.fault.CallFault.{CallFault}
+use Rattle.brk_money.specs.declared.fault.Fault.{Fault}
 use Rattle.brk_money.specs.declared.refusal.Refusal.{Refusal}
 use Rattle.brk_money.specs.declared.refusal.Refusal.TheVariants.{NoAccount, NoBroker, NoTrade}
+use Rattle.brk_model.specs.Run.{IsCallFault}
 use Rattle.brk_model.specs.Joins.{account_row_with_id, last_price_in_tables, trade_row_with_id}
 use Rattle.brk_model.specs.Statement.{text_of_lines, holding_rows_of_account}
 use Rattle.brk_model.specs.Tables.{AccountRow, BrokerRow, SecurityRow, Tables}
@@ -37,6 +41,10 @@ use Rattle.brk_explain.specs.LinesOutput.{WritesLinesOrRefuses}
 use Rattle.brk_explain.proofs.FirstLines.{HasFirst, first_behind}
 use Rattle.brk_report.proofs.Whole.{passes_found}
 use Rattle.brk_desk.proofs.Asked.{is_call_fault}
+
+-- the fault of a read is `Memory` or `Store`
+pub is_read_fault : (fault : CallFault) (converted : Fault) → converted ≡ fault_of_call fault → IsCallFault converted
+is_read_fault fault converted is = subst IsCallFault (sym is) (is_call_fault fault)
 
 -- ---- a trade
 

@@ -4,7 +4,6 @@ use Rattle.std.specs.Prelude.{Result, option_map}
 use Rattle.std.specs.Str.{is_utf8, IsUtf8}
 use Rattle.std.proofs.lemmas.Str.{IsUtf8-from_is_utf8, is_utf8-from_IsUtf8}
 use Rattle.brk_money.specs.Spelling.{Text}
-use Rattle.brk_money.specs.declared.fault.Fault.{Fault}
 use Rattle.brk_model_http.specs.Routes as model
 use Rattle.brk_model_http.specs.Routes.{split_at_byte, route_of_segments, route_of_target}
 use Rattle.std.specs.Prelude.{is_some}
@@ -31,7 +30,7 @@ pub routed : (views : List Text) (target : Text) → is_utf8 target ≡ true →
 unfolding route_of_target
 routed views target e = rw e refl
 
-pub with_route : {V : Type 0} (named : V → Text) (result : Result (Option (Route V)) Fault) {a b : Option model.Route} → a ≡ b
+pub with_route : {V E : Type 0} (named : V → Text) (result : Result (Option (Route V)) E) {a b : Option model.Route} → a ≡ b
     → IfOk result (λ route. option_map (route_in_model named) route ≡ a) → IfOk result (λ route. option_map (route_in_model named) route ≡ b)
 with_route named result e h = subst (λ (r : Option model.Route). IfOk result (λ route. option_map (route_in_model named) route ≡ r)) e h
 

@@ -9,7 +9,8 @@ use Rattle.sqlite_value.specs.Order.{Row}
 use Rattle.sqlite_sql.specs.Term.{Term, eval_all}
 use Rattle.sqlite.specs.State.{State, Shown}
 use Rattle.brk_tables_sql.specs.Rows.{cells_in_column_order}
-use Rattle.brk_tables_sql.proofs.Asked.{Ask, IsAsked, columns_of, key_at}
+use Rattle.brk_tables_sql.proofs.Lowered.{key_at}
+use Rattle.brk_tables_sql.proofs.Asked.{Ask, IsAsked, columns_of}
 use Rattle.brk_tables_sql.proofs.Adopted.{adopted_in_order}
 use Rattle.brk_tables_sql.proofs.Decode.{filter_true}
 use Rattle.brk_tables_sql.proofs.Kept.{reads_rising}

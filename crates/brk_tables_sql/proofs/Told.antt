@@ -26,7 +26,9 @@ use Rattle.sqlite.specs.State.{State, Shown}
 use Rattle.sqlite.proofs.Callers.{IsPlain, command_of, reads_as}
 use Rattle.brk_tables_sql.specs.Rows.{cells_in_column_order}
 use Rattle.brk_tables_sql.specs.Desk.{ProgramTables, IsTableAt, TablesSatisfy}
-use Rattle.brk_tables_sql.proofs.Asked.{Ask, Test, compares, lacks, Tests, single, also, IsAsked, is_found, are_found, tests_found, column_tested, collation_at, test_term, tests_term, filter_of, output_at, columns_of, key_at, asks}
+use Rattle.brk_tables_sql.proofs.Conditions.{Test, compares, lacks, Tests, single, also, is_found, are_found, column_tested}
+use Rattle.brk_tables_sql.proofs.Lowered.{collation_at, test_term, tests_term, output_at, key_at}
+use Rattle.brk_tables_sql.proofs.Asked.{Ask, IsAsked, tests_found, filter_of, columns_of, asks}
 use Rattle.brk_tables_sql.proofs.Kept.{reads_rising, reads_falling, reads_sorted}
 use Rattle.brk_tables_sql.proofs.Meant.{meant, known, when_understood}
 use Rattle.brk_tables_sql.proofs.Pick.{passes, picks, Picks, selection, sorted_by}

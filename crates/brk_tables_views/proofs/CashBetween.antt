@@ -4,7 +4,8 @@ use Rattle.sqlite.specs.declared.types.Value.TheVariants.{Int}
 use Rattle.sqlite_sql.specs.declared.ops.CompareOp.TheVariants.{Eq, Le, Ge}
 use Rattle.sqlite.specs.Term.{Term, lit}
 use Rattle.sqlite_tied.specs.Compute.{everything}
-use Rattle.brk_tables_sql.proofs.Asked.{Ask, compares, single, also, IsAsked, IsPlain, asks_plainly}
+use Rattle.brk_tables_sql.proofs.Conditions.{compares, single, also}
+use Rattle.brk_tables_sql.proofs.Asked.{Ask, IsAsked, IsPlain, asks_plainly}
 use Rattle.brk_tables_schema.specs.Shapes.{cash_move_table}
 
 abbrev pub statement : List ℕ

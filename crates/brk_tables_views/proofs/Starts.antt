@@ -7,7 +7,8 @@ use Rattle.sqlite.specs.State.{State, Shown, Begins, IsUnchanged}
 use Rattle.sqlite.specs.Clock.{timed}
 use Rattle.sqlite.proofs.Callers.{EndsIn, begins_shown}
 use Rattle.brk_tables_sql.specs.Desk.{ProgramTables, IsTableAt, TablesSatisfy}
-use Rattle.brk_tables_sql.proofs.Asked.{Ask, IsAsked, filter_of, columns_of, key_at, asks}
+use Rattle.brk_tables_sql.proofs.Lowered.{key_at}
+use Rattle.brk_tables_sql.proofs.Asked.{Ask, IsAsked, filter_of, columns_of, asks}
 use Rattle.brk_tables_sql.proofs.Effects.{same_value}
 use Rattle.brk_tables_sql.proofs.Meant.{meant, known, when_understood}
 use Rattle.brk_tables_sql.proofs.Pick.{selection}

@@ -19,7 +19,6 @@ returns g c =
     record {
       more = posted g.K.Ord.cmp g.met.K.Ord.total c.args.tally.now c.insert.new.self c.args.posting.now.key c.args.posting.now.amount c.sum_plus_amount-more.result
           (sum ∙ ap (λ s. s +ℤ c.args.posting.now.amount) read) updates;
-      fault = tt;
       small = posted_small g.K.Ord.cmp g.met.K.Ord.total c.args.tally.now c.insert.new.self c.args.posting.now.key c.sum_plus_amount-more.result 9223372036854775808
           (let e = ap nat_abs read in let e : nat_abs c.unwrap_or-sum.result ≡ nat_abs (sum_at_key g.K.Ord.cmp c.args.tally.now c.args.posting.now.key) =
           ap nat_abs read in omega (arith, small)) updates;

@@ -1,11 +1,12 @@
-use Rattle.std.proofs.Common.{refl}
+use Rattle.std.proofs.Common.{refl, inl}
 use Rattle.brk_model_explain.specs.Explain.{AccountOf, explanation}
 use Rattle.brk_explain_rows.specs.Details.{AreDetailsOfAccount}
 use Rattle.brk_report.proofs.Keeping.{clean_then, keeps_read, keeps_then}
 use Rattle.brk_report.proofs.Reported.{FailsAsLines, no_refusal, reported, reported_fault}
+use Rattle.brk_report_lines.proofs.Composed.{appends_none}
 use Rattle.brk_explain.specs.LinesOutput.{WritesLinesOrRefuses}
 use Rattle.brk_explain.specs.ExplanationParts.{all_account_lines}
-use Rattle.brk_explain.proofs.Explained.{account_told, no_account, tells_all, tells_fault}
+use Rattle.brk_explain.proofs.Explained.{account_told, is_read_fault, no_account, tells_all, tells_fault}
 use Rattle.brk_explain.proofs.explaining.write_account.Goals as goal
 
 pub returns-in-Ok-None : goal.returns-in-Ok-None
@@ -17,6 +18,18 @@ returns-in-Ok-None g c = record {
     unwritten = λ refusal is. refl;
   };
 }
+
+pub returns-in-Err : goal.returns-in-Err
+returns-in-Err g c =
+    let known = is_read_fault c.in-Err.fault c.into.result c.into.ensures in
+    record {
+      told = record {
+        written = λ clean t holds. (known, inl (appends_none _));
+        fault = known;
+        keeps = keeps_read g.S.Store _ _ c.account_details.result (AreDetailsOfAccount c.args.account) c.account_details.ensures;
+        unwritten = λ refusal is. absurd (let same = is in cc);
+      };
+    }
 
 pub returns-in_err-write_account_lines : goal.returns-in_err-write_account_lines
 returns-in_err-write_account_lines g c =

@@ -1,12 +1,13 @@
-use Rattle.std.proofs.Common.{Ok, Err, refl}
+use Rattle.std.proofs.Common.{Ok, Err, refl, inl}
 use Rattle.brk_model_explain.specs.Explain.{HoldingOf, explanation}
 use Rattle.brk_explain_rows.specs.Details.{AreDetailsOfHolding}
 use Rattle.brk_explain_sums.specs.HoldingTexts.{lines_of_holding_details}
 use Rattle.brk_report.proofs.Keeping.{keeps_read}
 use Rattle.brk_report.proofs.Reported.{FailsAsLines, no_refusal, reported, reported_fault}
+use Rattle.brk_report_lines.proofs.Composed.{appends_none}
 use Rattle.brk_explain.specs.LinesOutput.{WritesLinesOrRefuses}
 use Rattle.brk_explain.proofs.FirstLines.{text_written}
-use Rattle.brk_explain.proofs.Explained.{holding_first, holding_told, no_holding, tells_all, tells_fault}
+use Rattle.brk_explain.proofs.Explained.{holding_first, holding_told, is_read_fault, no_holding, tells_all, tells_fault}
 use Rattle.brk_explain.proofs.explaining.write_holding.Goals as goal
 
 pub returns-in-Ok-Err : goal.returns-in-Ok-Err
@@ -19,6 +20,18 @@ returns-in-Ok-Err g c = record {
     unwritten = λ refusal is. refl;
   };
 }
+
+pub returns-in-Err : goal.returns-in-Err
+returns-in-Err g c =
+    let known = is_read_fault c.in-Err.fault c.into.result c.into.ensures in
+    record {
+      told = record {
+        written = λ clean t holds. (known, inl (appends_none _));
+        fault = known;
+        keeps = keeps_read g.S.Store _ _ c.holding_details.result (AreDetailsOfHolding c.args.account c.args.symbol.now) c.holding_details.ensures;
+        unwritten = λ refusal is. absurd (let same = is in cc);
+      };
+    }
 
 pub returns-in_err-write_lines : goal.returns-in_err-write_lines
 returns-in_err-write_lines g c =

@@ -1,12 +1,13 @@
-use Rattle.std.proofs.Common.{Ok, Err, refl}
+use Rattle.std.proofs.Common.{Ok, Err, refl, inl}
 use Rattle.brk_model_explain.specs.Explain.{TradeOf, explanation}
 use Rattle.brk_model_explain.specs.TradeLines.{trade_explanation_lines}
 use Rattle.brk_explain_rows.specs.Details.{AreDetailsOfTrade, abstract_trade_details}
 use Rattle.brk_report.proofs.Keeping.{keeps_read}
 use Rattle.brk_report.proofs.Reported.{FailsAsLines, no_refusal, reported, reported_fault}
+use Rattle.brk_report_lines.proofs.Composed.{appends_none}
 use Rattle.brk_explain.specs.LinesOutput.{WritesLinesOrRefuses}
 use Rattle.brk_explain.proofs.FirstLines.{text_written}
-use Rattle.brk_explain.proofs.Explained.{no_trade, tells_all, tells_fault, trade_first, trade_told}
+use Rattle.brk_explain.proofs.Explained.{is_read_fault, no_trade, tells_all, tells_fault, trade_first, trade_told}
 use Rattle.brk_explain.proofs.explaining.write_trade.Goals as goal
 
 pub returns-in-Ok-None : goal.returns-in-Ok-None
@@ -18,6 +19,18 @@ returns-in-Ok-None g c = record {
     unwritten = λ refusal is. refl;
   };
 }
+
+pub returns-in-Err : goal.returns-in-Err
+returns-in-Err g c =
+    let known = is_read_fault c.in-Err.fault c.into.result c.into.ensures in
+    record {
+      told = record {
+        written = λ clean t holds. (known, inl (appends_none _));
+        fault = known;
+        keeps = keeps_read g.S.Store _ _ c.trade_details.result (AreDetailsOfTrade c.args.trade) c.trade_details.ensures;
+        unwritten = λ refusal is. absurd (let same = is in cc);
+      };
+    }
 
 pub returns-in_err-write_lines : goal.returns-in_err-write_lines
 returns-in_err-write_lines g c =

@@ -21,5 +21,5 @@ pub returns-in_err-write_line-clause-stops : goal.returns-in_err-write_line-clau
 returns-in_err-write_line-clause-stops g c =
     on_err (FailsWithinLines (cash_posting_line (abstract_cash_row c.args.item.now) (c.args.self.now.balance +ℤ c.args.item.now.amount) ∷ []) _ _) _ _ c.from_residual-in_err-write_line.ensures.1
     (subst (λ (z : ℤ). FailsWithinLines (cash_posting_line (abstract_cash_row c.args.item.now) z ∷ []) (g.W.Write.contents c.args.self.now.writer.now)
-    (g.W.Write.contents c.write_line.new.writer) c.in_err-write_line.field-0.0) c.in_ok-balance.ensures
+    (g.W.Write.contents c.write_line.new.writer) c.in_err-write_line.field-0.0) c.in_ok-balance.ensures.sum
     (c.in_err-write_line.ensures.written (cash_posting_line (abstract_cash_row c.args.item.now) c.in_ok-balance.balance) c.posting_text.ensures))
