@@ -22,7 +22,7 @@ returns-in-Err-Failed g c =
         c.visit_cash_rows.result,
         is_walked_by _ _ _ _ _ (λ v. v.call)
             (λ p x q. CalledAt g.F.FnMut p x (Ok tt) q) (λ p x e q. CalledAt g.F.FnMut p x (Err e) q) _ _ _ c.visit_cash_rows.ensures.walked,
-        rw (c.in-Err-Failed.is, c.in-Err-Failed.field-0-is) (_, refl, rw c.from.ensures at c.from-2.ensures),
+        rw (c.in-Err-Failed.is, c.in-Err-Failed.field-0-is) (_, refl, rw c.from.ensures at c.from-in-Err-Failed.ensures),
       );
     }
 
