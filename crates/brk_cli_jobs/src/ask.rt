@@ -15,7 +15,11 @@ use std::io::Write;
 
 /// Refuses what `execute_ask_job` refuses before it asks the desk: an unknown view and wrong
 /// arguments.
-pub(crate) fn check_query(alloc: Global, view: &str, arguments: &[String]) -> Planned<(), AllocError>
+pub(crate) fn check_query(
+    alloc: Global,
+    view: &str,
+    arguments: &[String],
+) -> Planned<(), AllocError>
     ensures { IfOk result (λ read. read ≡ without_value (model.parse_query view.now (map string_bytes arguments.now))) }
 {
     let arguments = borrow_texts(alloc, arguments)?;

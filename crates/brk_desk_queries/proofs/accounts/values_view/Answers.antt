@@ -44,8 +44,8 @@ returns-in_err-worths g c =
     rw p.1 (failed_after g.S.Store old c.customer.new.self c.read_worths.new.store _ p.0 _ _
     (single_read_changes_nothing old c.customer.new.self _ _ c.in_ok-found.ensures.read) c.in_err-worths.ensures)
 
-pub returns-in-Err : goal.returns-in-Err
-returns-in-Err g c =
+pub returns : goal.returns
+returns g c =
     let old = c.args.store.now in
     none_read g.S.Store old c.read_worths.new.store call.Memory _
     (unchanged_after g.S.Store old c.customer.new.self c.read_worths.new.store _ _

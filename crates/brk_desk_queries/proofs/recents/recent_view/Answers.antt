@@ -45,8 +45,8 @@ returns-in_err-trades g c =
     rw p.1 (failed_after g.S.Store old c.account.new.self c.recent_trades.new.store _ p.0 _ _
     (single_read_changes_nothing old c.account.new.self _ _ c.in_ok-found.ensures.read) c.in_err-trades.ensures)
 
-pub returns-in-Err : goal.returns-in-Err
-returns-in-Err g c =
+pub returns : goal.returns
+returns g c =
     let old = c.args.store.now in
     none_read g.S.Store old c.recent_trades.new.store call.Memory _
     (unchanged_after g.S.Store old c.account.new.self c.recent_trades.new.store _ _

@@ -42,7 +42,7 @@ loop-change-preserved g c =
     (λ touches (t : Tables). touches.items ≡ stamped_changes_of_lot t change.lot)
     (λ _. AreKept c.args.trade rest c.merge_touches.new.kept.items)
     (λ t p e. kept_more t before rest change touches.items c.loop-change.kept.items c.merge_touches.new.kept.items _
-    c.in-Some.ensures.items e c.in_ok-merge_touches.ensures.merged p)
+    c.in-Some.ensures.items e c.in_ok-merge_touches.ensures p)
     c.loop-change.invariant c.in_ok-touches.ensures
 
 pub returns : goal.returns
