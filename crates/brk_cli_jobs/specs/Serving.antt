@@ -15,7 +15,6 @@ use Rattle.brk_desk.specs.declared.call.Call.TheVariants as call
 use Rattle.brk_desk.specs.declared.call.Outcome as came
 use Rattle.brk_desk.specs.declared.call.Outcome.TheVariants as outcome
 use Rattle.brk_io.specs.Readings.{ReturnsReading, program_clock}
-use Rattle.brk_io.specs.declared.program_clock.ProgramClock.{ProgramClock}
 use Rattle.brk_money.specs.declared.fault.Fault.{Fault}
 use Rattle.brk_money.specs.declared.fault.Fault.TheVariants as fault
 use Rattle.brk_cli_jobs.specs.Files.{CloseRelation, OpenRelation}
