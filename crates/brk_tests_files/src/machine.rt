@@ -120,10 +120,14 @@ fn perform_job_in_files<D: Disk + Drop>(
 
 // Returns a file in memory with these bytes, all synced. It accepts `calls` calls and fails at each
 // later call. Fails only if memory runs out.
-fn failing_file_with_bytes(alloc: Global, bytes: &[u8], calls: u64) -> Result<Fuse<Memory>, Fail> {
+fn failing_file_with_bytes(
+    alloc: Global,
+    bytes: &[u8],
+    calls: u64,
+) -> Result<Fuse<Memory>, AllocError> {
     let mut file = Memory::new(alloc);
     if file.write_at(0, bytes).is_err() || file.sync().is_err() {
-        return Err("no memory for a file")?;
+        return Err(AllocError);
     }
     Ok(Fuse::new(file, calls))
 }
@@ -135,7 +139,7 @@ pub fn files_failing_at_crash(
     alloc: Global,
     held: &Held,
     stop: MachineCrash,
-) -> Result<Files<Fuse<Memory>>, Fail> {
+) -> Result<Files<Fuse<Memory>>, AllocError> {
     let (log_calls, db_calls) = match stop.file {
         File::Log => (stop.calls, u64::MAX),
         File::Database => (u64::MAX, stop.calls),

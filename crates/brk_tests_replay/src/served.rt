@@ -96,9 +96,7 @@ impl DeskFiles for FailingFiles {
         let held = self.held.replace(Held::empty_files(self.alloc));
         let stop = self.next.replace(self.later);
         self.openings.set(self.openings.get().saturating_add(1));
-        let Ok(files) = files_failing_at_crash(self.alloc, &held, stop) else {
-            return Err(Fault::Memory);
-        };
+        let files = files_failing_at_crash(self.alloc, &held, stop)?;
         match open_database(self.alloc, files, options_with_cached_pages(CACHED_PAGES)) {
             Ok(conn) => match adopt_store(self.alloc, conn) {
                 Ok(store) => Ok(store),
