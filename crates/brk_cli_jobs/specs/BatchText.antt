@@ -24,8 +24,9 @@ use Rattle.brk_model.specs.Parse.{parse_by_first_field, row_parsers}
 use Rattle.brk_money.specs.Spelling.{Text}
 use Rattle.brk_money.specs.declared.fault.Fault.{Fault}
 use Rattle.brk_cli_jobs.specs.Endings.{ending_of_batch}
+use Rattle.brk_cli_jobs.specs.Files.{CloseRelation, OpenRelation}
 use Rattle.brk_cli_jobs.specs.Jobs.{InputAndOutput, clock_and_output}
-use Rattle.brk_cli_jobs.specs.Places.{CloseRelation, FailsToOpen, OpenRelation}
+use Rattle.brk_cli_jobs.specs.Places.{FailsToOpen}
 use Rattle.brk_store_transactions.specs.Audited.{Represents}
 
 -- The result of the batch with the bytes `input` from `base`, if every clock reading is `t`: what it

@@ -1,4 +1,6 @@
--- Connections to database files that were newly opened, or that were closed.
+-- Connections to database files that were newly opened, or that were closed, and the relations of
+-- opening and closing a desk.
+use Rattle.std.specs.Prelude.{ℕ, List, Result}
 use Rattle.sqlite_disk.specs.declared.Disk.{Ghosts}
 use Rattle.sqlite_disk.specs.declared.Files.{Files}
 use Rattle.sqlite_wal.specs.Reads.{AreClean}
@@ -7,6 +9,7 @@ use Rattle.sqlite.specs.Held.{Held, IsNew}
 use Rattle.sqlite.specs.State.{HasCleanDisk}
 use Rattle.sqlite.specs.Files.{file_state, IsOpened}
 use Rattle.sqlite.specs.Closing.{IsCopied}
+use Rattle.brk_money.specs.declared.fault.Fault.{Fault}
 
 -- The connection `conn` to a database file is new, and under the disk assumption it is open.
 pub record IsNewConnectionToFile {D : Type 0} {g : Ghosts D} (conn : Held (FileStore D g)) : Type 0 where
@@ -20,3 +23,11 @@ pub record IsNewConnectionToFile {D : Type 0} {g : Ghosts D} (conn : Held (FileS
 -- a crash exposes only this commit. Vacuous if the disk assumption fails.
 abbrev pub HasLastCommitInFile : {D : Type 0} {g : Ghosts D} → Held (FileStore D g) → Type 0
 HasLastCommitInFile {D} {g} conn = (files : Files D) × (AreClean g files.log files.db → IsCopied conn files)
+
+-- The type of the relation of a close of a store.
+abbrev pub CloseRelation : Type 0 → Type 1
+CloseRelation S = Held S → Result (Unit {0}) Fault → Type 0
+
+-- The type of the relation of an open at a path.
+abbrev pub OpenRelation : Type 0 → Type 1
+OpenRelation S = List ℕ → Result (Held S) Fault → Type 0

@@ -5,7 +5,7 @@ use Rattle.brk_lots.specs.Sources.{EqualsLots}
 use Rattle.brk_lots.specs.declared.lot.Lot.{Lot}
 use Rattle.brk_model.specs.Joins.{trade_row_with_id}
 use Rattle.brk_model.specs.Tables.{AccountRow, SecurityRow, Tables}
-use Rattle.brk_ref.specs.Records.{abstract_account_row, abstract_security_row}
+use Rattle.brk_ref.specs.Records.{abstract_account_row, abstract_broker_row, abstract_security_row}
 use Rattle.brk_ref.specs.Rows.{abstract_trade_row}
 use Rattle.brk_trade.specs.declared.result_found.Posting.{Posting}
 use Rattle.brk_trade.specs.declared.result_found.ResultPlanFacts.{ResultPlanFacts}
@@ -15,17 +15,16 @@ use Rattle.brk_ref.specs.declared.trade_row.TradeRow.{TradeRow}
 use Rattle.brk_trade_books.specs.Reads.{customer_tax_rate_sum}
 use Rattle.brk_trade_theorems.specs.ResultPlans.{ResultFactsMatchTables}
 use Rattle.brk_trade_books.specs.TradeReads.{commission_band_of_quantity, last_cash_row_number_or_zero, lots_of_position}
-use Rattle.brk_store_required.specs.Required.{AreTotalsOfBroker}
 
 -- The facts `parties` of the account in the row `row` agree with the tables `t`: the row itself, the
 -- tier of the account's customer and the sum of this customer's tax rates in hundred-thousandths,
--- and the totals of the account's broker. The tier is
--- specified only if the customer exists, and the totals only if the broker exists.
+-- and the row of the account's broker. The tier is specified only if the customer exists, and the
+-- broker only if it exists.
 pub record PartyFactsMatchTables (t : Tables) (row : AccountRow) (parties : TradeParties) : Type 0 where
   pub account : abstract_account_row parties.account ≡ row
   pub tier : IfSome (find (λ r. r.id == row.customer) t.customers) (λ c. parties.tier ≡ c.tier)
   pub rates : parties.rates ≡ customer_tax_rate_sum t row.customer
-  pub broker : AreTotalsOfBroker t row.broker parties.broker
+  pub broker : IfSome (find (λ r. r.id == row.broker) t.brokers) (λ b. abstract_broker_row parties.broker ≡ b)
 
 -- The facts `listed` of the trade's security, whose row is `row`, agree with the tables `t`: the
 -- row itself, and the commission rate, in hundredths of a percent, of the first band, in the

@@ -2,13 +2,14 @@
 //! the calls of a file that a sale makes, streams that come in pieces or end early, readers and
 //! writers that fail. The command `test` of a transcript runs one of them. A test fails if what it
 //! checks is not so, and also if a desk for it cannot be set up or memory runs out.
+//! `brk_tests_replay` uses their files and crashes.
 #![tactic(auto)]
 
-mod crashes;
+pub mod crashes;
 mod file_calls;
-mod http;
-mod jobs;
-mod machine;
+pub mod http;
+pub mod jobs;
+pub mod machine;
 mod statements;
 
 use std::alloc::Global;

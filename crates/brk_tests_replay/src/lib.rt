@@ -10,6 +10,7 @@ mod files;
 mod listing;
 mod records;
 mod replay;
+mod served;
 mod table_list;
 mod tests;
 

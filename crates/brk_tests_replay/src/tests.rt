@@ -2,6 +2,7 @@
 
 use crate::failed::OutOfMemory;
 use crate::replay::append_output_line;
+use crate::served::a_served_desk_recovers_from_disk_faults;
 use std::alloc::Global;
 use std::process::Termination;
 use std::test::Fail;
@@ -24,9 +25,12 @@ fn run_test_over_desks(alloc: Global, name: &str) -> Option<Result<(), Fail>> {
     }
 }
 
-// Runs the test `name` of one of the five crates of tests. Returns `None` if no test has this name,
-// and otherwise the result of the test.
+// Runs the test `name` of one of the five crates of tests, or of `served`. Returns `None` if no test
+// has this name, and otherwise the result of the test.
 fn run_test(rt: &HostRuntime, name: &str) -> Option<Result<(), Fail>> {
+    if name == "a_served_desk_recovers_from_disk_faults" {
+        return Some(a_served_desk_recovers_from_disk_faults(rt));
+    }
     match brk_tests_surface::run_test(rt, name) {
         None => match run_test_without_database(rt, name) {
             None => run_test_over_desks(rt.alloc(), name),

@@ -1,7 +1,8 @@
 -- The figures of a result for the trade that it completes, and its checks.
-use Rattle.std.specs.Prelude.{ℕ, ◌+◌, ◌*◌, ◌&&◌, true, not, nat_lt, nat_abs, is_none, unwrap_or, if◌then◌else◌, ℤ, pos, ◌+ℤ◌, ◌-ℤ◌, List, [], ◌∷◌, ◌++◌, Option, option_map}
+use Rattle.std.specs.Prelude.{ℕ, ◌+◌, ◌*◌, ◌&&◌, Bool, true, false, nat_le, negsuc, not, nat_lt, nat_abs, is_none, unwrap_or, if◌then◌else◌, ℤ, pos, ◌+ℤ◌, ◌-ℤ◌, List, [], ◌∷◌, ◌++◌, Option, option_map}
 use Rattle.std.specs.Option.{option_map_or}
 use Rattle.brk_trade.specs.Estimates.{tax_on_gain_at_status}
+use Rattle.brk_trade_rows.specs.declared.trade_count.TheConstants.TradeCount
 use Rattle.brk_lots.specs.declared.closed_values.Values.{Values}
 use Rattle.brk_model.specs.Base.{is_withholding_status}
 use Rattle.brk_model.specs.Derived.{due_day_of_completion_stamp, signed_proceeds}
@@ -104,6 +105,11 @@ checks_after_reading_lots found price values stamp =
     (found.trade.is_cash && nat_lt greatest_amount (nat_abs (balance_after_result found price values)), Range limit.Balance)
     ∷ (nat_lt greatest_amount (broker_commissions_after_result found price), Range limit.Broker) ∷ due_day_check found.posting.rule stamp ∷ []
 
+-- True if the number is a number of completed trades: 0 to 10^12.
+abbrev pub is_trade_count : ℤ → Bool
+is_trade_count (pos n) = nat_le n TradeCount.GREATEST
+is_trade_count (negsuc n) = false
+
 -- All checks of a result at `price` cents a share: the checks that precede the reading of lots,
 -- then the checks that follow it.
 abbrev pub result_checks : ResultPlanFacts → ℕ → Values → Option ℕ → List RefusalCheck
@@ -130,5 +136,6 @@ abbrev pub figures_of_result : ResultPlanFacts → ℕ → Values → ℕ → Re
 figures_of_result found price values stamp = record {
   completed = reply_figures_of_result found price values stamp;
   summary = shares_held_after_trade found;
+  trades = found.parties.broker.trades +ℤ pos 1;
   commissions = broker_commissions_after_result found price;
 }

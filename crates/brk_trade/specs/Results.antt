@@ -24,7 +24,7 @@ use Rattle.brk_money.specs.declared.refusal.Refusal.TheVariants.{NoTrade}
 use Rattle.brk_money.specs.declared.status.Status.TheVariants as status
 use Rattle.brk_ref.specs.Rows.{abstract_cash_row}
 use Rattle.brk_trade.specs.Outcomes.{deal_of_trade_row, checks_before_reading_lots, result_checks, figures_of_result, reply_figures_of_result}
-use Rattle.brk_trade.specs.Outcomes.{quantity_in_summary, shares_held_before_trade}
+use Rattle.brk_trade.specs.Outcomes.{is_trade_count, quantity_in_summary, shares_held_before_trade}
 use Rattle.brk_ref.specs.declared.cash_type.CashType.{CashType}
 use Rattle.brk_ref.specs.declared.cash_type.CashType.TheVariants as cash_type
 use Rattle.brk_trade_rows.specs.declared.change.Change.{Change}
@@ -106,10 +106,9 @@ row_changes_of_completed_trade trade price completed =
     change.CompleteTrade trade completed.stamp price completed.commission completed.tax
     ∷ change.AddHistory (record { trade = trade; status = status.Completed; stamp = completed.stamp }) ∷ []
 
--- The row change that sets the totals of the account's broker: one more completed trade, and
--- `commissions`, the broker's new commission total in cents.
-abbrev pub row_change_of_broker_totals : ResultPlanFacts → ℕ → Change
-row_change_of_broker_totals found commissions = change.SetBrokerTotals found.parties.account.account.broker (pos (found.parties.broker.trades + 1)) commissions
+-- The row change that sets the totals of the account's broker to those after the trade.
+abbrev pub row_change_of_broker_totals : ResultPlanFacts → ResultFigures → Change
+row_change_of_broker_totals found outcome = change.SetBrokerTotals found.parties.account.account.broker outcome.trades outcome.commissions
 
 -- The row change that adds the SETTLEMENT row of the trade `t`: its settlement text, and the due
 -- day and the settlement amount of the figures `completed`.
@@ -121,7 +120,7 @@ row_change_adding_settlement t completed =
 -- sequence.
 abbrev pub summary_broker_settlement_changes : ResultPlanFacts → ResultFigures → List Change
 summary_broker_settlement_changes found outcome =
-    row_change_of_summary (quantity_in_summary found) found.trade outcome.summary ∷ row_change_of_broker_totals found outcome.commissions
+    row_change_of_summary (quantity_in_summary found) found.trade outcome.summary ∷ row_change_of_broker_totals found outcome
     ∷ row_change_adding_settlement found.trade outcome.completed ∷ []
 
 -- The row changes that complete the trade of `found` at `price` cents a share, in this sequence: of
@@ -155,6 +154,10 @@ AreLotsBeforeTrade given found ls =
 -- The account of the trade of `found` holds no shares that this trade would close.
 abbrev pub ClosesNoHeldShares : ResultPlanFacts → Type 0
 ClosesNoHeldShares found = is_trade_closing_lots (side_of_trade_type found.trade.kind) (shares_held_before_trade found) ≡ false
+
+-- The number of completed trades in the row of the account's broker is below 0 or above 10^12.
+abbrev pub HasBrokerCountOutOfRange : ResultPlanFacts → Type 0
+HasBrokerCountOutOfRange found = is_trade_count found.parties.broker.trades ≡ false
 
 -- `plan` completes the trade of `found` at `price` cents a share and at the stamp of the command.
 -- `given` is true of each list of lots that the source may return, `last` is the last stamp, and

@@ -141,13 +141,13 @@ fn first_cash_type(is_cash: bool) -> CashType
     }
 }
 
-fn totals_change(found: &ResultPlanFacts, commissions: Amount) -> Change
-    ensures { result ≡ spec.row_change_of_broker_totals found.now commissions }
+fn totals_change(found: &ResultPlanFacts, outcome: &ResultFigures) -> Change
+    ensures { result ≡ spec.row_change_of_broker_totals found.now outcome.now }
 {
     Change::SetBrokerTotals {
         broker: found.parties.account.account.broker,
-        trades: found.parties.broker.trades.get() as i64 + 1,
-        commissions,
+        trades: outcome.trades,
+        commissions: outcome.commissions,
     }
 }
 
@@ -172,7 +172,7 @@ fn append_sums_with_settlement(
 {
     let summary = summary_change(found, outcome)?;
     changes.push(summary)?;
-    changes.push(totals_change(found, outcome.commissions))?;
+    changes.push(totals_change(found, outcome))?;
     changes.push(settling_change(&found.trade, &outcome.completed))?;
     Ok(())
 }

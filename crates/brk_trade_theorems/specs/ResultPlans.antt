@@ -1,5 +1,5 @@
 -- The facts that are read from the tables before a result is planned.
-use Rattle.std.specs.Prelude.{◌≡◌, ◌≤◌, ◌<◌, ◌+◌, ℕ, ◌==◌, List, find, take, IfSome, Option, None, option_map, pos}
+use Rattle.std.specs.Prelude.{◌≡◌, ◌≤◌, ◌<◌, ◌+◌, ℕ, ◌==◌, List, find, take, IfSome, Option, None, option_map}
 use Rattle.brk_lots.specs.declared.lot.Lot.{Lot}
 use Rattle.brk_model.specs.Base.{Base}
 use Rattle.brk_model.specs.Joins.{account_row_with_id, security_row_with_symbol, trade_row_with_id}
@@ -8,7 +8,7 @@ use Rattle.brk_model.specs.Tables.{Tables}
 use Rattle.brk_model.specs.Tests.{first_refusal}
 use Rattle.brk_money.specs.Moments.{greatest_stamp}
 use Rattle.brk_trade.specs.Outcomes.{checks_before_reading_lots}
-use Rattle.brk_ref.specs.Records.{abstract_account_row, abstract_security_row}
+use Rattle.brk_ref.specs.Records.{abstract_account_row, abstract_broker_row, abstract_security_row}
 use Rattle.brk_ref.specs.Rows.{abstract_summary_row, abstract_trade_row}
 use Rattle.brk_trade.specs.declared.result_found.ResultPlanFacts.{ResultPlanFacts}
 use Rattle.brk_ref.specs.declared.trade_row.TradeRow.{TradeRow}
@@ -26,8 +26,8 @@ abbrev pub PassesFirstResultChecks : ℕ → ResultPlanFacts → Type 0
 PassesFirstResultChecks n found = first_refusal (take n (checks_before_reading_lots found)) ≡ None
 
 -- The facts `found` about the result of a trade are true of the tables: the commission rate, the
--- rows of the summary, of the account and of the security, the sum of the customer's tax rates, the
--- broker totals, the first day of one-day settlement, and the number of the next cash row. A clause is
+-- rows of the summary, of the account, of the broker and of the security, the sum of the customer's
+-- tax rates, the first day of one-day settlement, and the number of the next cash row. A clause is
 -- vacuous if one of the checks that it names fails, since the fact is not read then. The clauses
 -- `rate`, `account`, `rates`, `broker` and `security` are also vacuous if an account, a customer, a
 -- broker or a security whose row they read does not exist.
@@ -44,10 +44,10 @@ pub record ResultFactsMatchTables (t : Tables) (found : ResultPlanFacts) : Type 
       → IfSome (account_row_with_id t found.trade.account) (λ a. abstract_account_row found.parties.account ≡ a)
   -- The tax rates are the sum of the rates of the taxes that the customer pays.
   pub rates : PassesFirstResultChecks 3 found → IfSome (account_row_with_id t found.trade.account) (λ a. found.parties.rates ≡ customer_tax_rate_sum t a.customer)
-  -- The totals are the trade count and the commission total of the account's broker.
+  -- The row of the broker is that of the account's broker.
   pub broker : PassesFirstResultChecks 3 found
       → IfSome (account_row_with_id t found.trade.account) (λ a. IfSome (find (λ r. r.id == a.broker) t.brokers) (λ b.
-      (pos found.parties.broker.trades ≡ b.trades) × (found.parties.broker.commissions ≡ b.commissions)))
+      abstract_broker_row found.parties.broker ≡ b))
   pub security : PassesFirstResultChecks 3 found → IfSome (security_row_with_symbol t found.trade.symbol) (λ s. abstract_security_row found.listed.security ≡ s)
   -- The first day of one-day settlement equals that of the tables, and the next cash row has the
   -- number after that of the last cash row, or 1 if there are no cash rows.
