@@ -149,5 +149,13 @@ pub(crate) fn execute_serve_job_in_file<S: Alter, F: DeskFiles<Desk = Store<S>>>
         return ending_after_close(Ending::Net, files.close(store));
     };
     let mut clock = ProgramClock::new(rt, at);
-    serve_file_on(rt.alloc(), files, path, &listener, streams, &mut clock, store)
+    serve_file_on(
+        rt.alloc(),
+        files,
+        path,
+        &listener,
+        streams,
+        &mut clock,
+        store,
+    )
 }

@@ -198,7 +198,9 @@ fn serve_streams_on_files<S: Alter, F: DeskFiles<Desk = Store<S>>>(
     store: Store<S>,
 ) -> Ending {
     let mut clock = Still::at_first_timestamp();
-    serve_file_on(alloc, files, "desk.db", listener, STREAMS, &mut clock, store)
+    serve_file_on(
+        alloc, files, "desk.db", listener, STREAMS, &mut clock, store,
+    )
 }
 
 // Opens the files and serves `STREAMS` streams on the desk in them. Returns the ending, and the

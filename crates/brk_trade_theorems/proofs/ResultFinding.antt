@@ -177,9 +177,10 @@ broker_found base t found k p =
     let told = subst (λ x. IfSome x (λ r. abstract_broker_row found.parties.broker ≡ r)) row
     (of_account base t.account (λ a. IfSome (find (λ r. r.id == a.broker) (sheets base).brokers) (λ r. abstract_broker_row found.parties.broker ≡ r)) k.owner
     (subst (λ (r : TradeRow). IfSome (account_row_with_id (sheets base) r.account) (λ a. IfSome (find (λ r. r.id == a.broker) (sheets base).brokers) (λ b.
-    abstract_broker_row found.parties.broker ≡ b))) k.row (k.read.broker p))) in
-    (ap (λ (r : BrokerRow). r.trades) told ∙ ap (λ id. pos (trade_count_of_broker base.accounts (completed_trades base) id)) same,
-    ap (λ (r : BrokerRow). r.commissions) told ∙ ap (commission_total_of_broker base.accounts (completed_trades base)) same)
+    abstract_broker_row found.parties.broker ≡ b))) k.row (k.read.broker p))) in (
+      ap (λ (r : BrokerRow). r.trades) told ∙ ap (λ id. pos (trade_count_of_broker base.accounts (completed_trades base) id)) same,
+      ap (λ (r : BrokerRow). r.commissions) told ∙ ap (commission_total_of_broker base.accounts (completed_trades base)) same,
+    )
 
 pub security_found : (base : Base) (t : Trade) (found : ResultPlanFacts) → TradeFound base t found → PassesFirstResultChecks 3 found → found.listed.security.name ≡ security_name base t.symbol
 security_found base t found k p =

@@ -44,7 +44,7 @@ pub record ResultFactsMatchTables (t : Tables) (found : ResultPlanFacts) : Type 
       → IfSome (account_row_with_id t found.trade.account) (λ a. abstract_account_row found.parties.account ≡ a)
   -- The tax rates are the sum of the rates of the taxes that the customer pays.
   pub rates : PassesFirstResultChecks 3 found → IfSome (account_row_with_id t found.trade.account) (λ a. found.parties.rates ≡ customer_tax_rate_sum t a.customer)
-  -- The row of the broker is that of the account's broker.
+  -- The row has the id of the account's broker.
   pub broker : PassesFirstResultChecks 3 found
       → IfSome (account_row_with_id t found.trade.account) (λ a. IfSome (find (λ r. r.id == a.broker) t.brokers) (λ b.
       abstract_broker_row found.parties.broker ≡ b))
