@@ -61,6 +61,7 @@ impl<W: Write> Write for PipeWriter<W> {
         written
     }
 
+    /// Flushes the other writer. Does not record a closed pipe: no job flushes.
     fn flush(&mut self) -> io::Result<()> {
         self.output.flush()
     }

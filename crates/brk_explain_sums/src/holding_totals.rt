@@ -59,7 +59,7 @@ fn put_worth(
 }
 
 // Writes the numbers of trades, lots, open lots and changes.
-fn put_lot_counts(
+fn put_holding_counts(
     out: &mut Vec<u8>,
     trades: usize,
     lots: usize,
@@ -95,6 +95,6 @@ pub(crate) fn put_holding_end(
     let changes = count_of_lot_changes(lots)?;
     put_trade_totals(alloc, out, bought, sold, gain, cost)?;
     put_worth(alloc, out, shares, price, cost)?;
-    put_lot_counts(out, done.len(), lots.len(), open_lots, changes)?;
+    put_holding_counts(out, done.len(), lots.len(), open_lots, changes)?;
     Ok(())
 }

@@ -1,6 +1,6 @@
 use Rattle.brk_explain_columns.proofs.Chains.{more, more2, first2, on_ok}
 use Rattle.std.proofs.Common.{◌≡◌, ◌++◌, ◌∷◌, [], codes, decimal}
-use Rattle.brk_explain_sums.proofs.holding_totals.put_lot_counts.Goals as goal
+use Rattle.brk_explain_sums.proofs.holding_totals.put_holding_counts.Goals as goal
 
 pub returns : goal.returns
 returns c =
