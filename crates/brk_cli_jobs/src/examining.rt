@@ -99,7 +99,8 @@ fn may_be_opened(file: &[u8], log: &[u8]) -> bool
     is_unfinished(file, log) && !log_has_commit(log)
 }
 
-// Reads the first `START` bytes of a file, none if it is missing.
+// Reads the first `START` bytes of a file, none if it is missing. Fails on what is no regular file,
+// without opening it.
 fn read_start(rt: &HostRuntime, path: &str) -> io::Result<Vec<u8>> {
     let mut start = Vec::new(rt.alloc());
     match fs::metadata(rt, path) {

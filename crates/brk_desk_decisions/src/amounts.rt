@@ -55,7 +55,7 @@ fn add_balance(balance: Cents, worth: Wide) -> Option<Wide>
 // Returns the assets of an account, and the number of its shares of the symbol. Reads the account's
 // summaries once for both. Fails with `Store` also if a held symbol has no last price, or if the
 // sum overflows.
-fn account_assets_with_shares<S: Alter>(
+fn read_account_amounts<S: Alter>(
     alloc: Global,
     store: &mut Store<S>,
     account: &AccountRow,
@@ -73,7 +73,7 @@ fn account_assets_with_shares<S: Alter>(
 }
 
 // Reads the amounts for the estimate of `order`. Fails with `Store` also as `require_tax_rate_sum`
-// and `account_assets_with_shares` do.
+// and `read_account_amounts` do.
 pub(crate) fn estimate_amounts<S: Alter>(
     alloc: Global,
     store: &mut Store<S>,
@@ -83,7 +83,7 @@ pub(crate) fn estimate_amounts<S: Alter>(
     ensures { ReadPost S.Store store.old store.new result (λ amounts t. EstimateAmountsMatchTables t account.now order.now amounts) }
 {
     let rates = require_tax_rate_sum(alloc, store, account.account.customer)?;
-    let (assets, summary) = account_assets_with_shares(alloc, store, account, &order.symbol)?;
+    let (assets, summary) = read_account_amounts(alloc, store, account, &order.symbol)?;
     Ok(Amounts {
         rates,
         assets,

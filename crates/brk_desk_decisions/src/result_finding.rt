@@ -1,4 +1,5 @@
-//! Reads of the facts that decide on a result.
+//! Reads of the facts that decide on a result: the trade with its parties, its security with a rate,
+//! and what its posting needs.
 
 ghost use Rattle.std.specs.Prelude.{◌<◌, IfOk, IfSome};
 ghost use Rattle.brk_desk_decisions.specs.ResultFactReads.{AreResultFactsOfTradeWithId, AreResultFactsOfTrade, SecurityFactsMatchTables, PostingFactsMatchTables};

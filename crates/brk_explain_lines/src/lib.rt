@@ -12,4 +12,4 @@ pub mod trade;
 mod waiting_lines;
 
 pub use account::{end_text, header_text, lots_head_text, open_lot_text, posting_text};
-pub use trade::explained_trade;
+pub use trade::trade_explanation_text;

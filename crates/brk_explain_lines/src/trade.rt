@@ -53,7 +53,7 @@ fn put_lines_after_statuses(
 /// Returns all lines of the explanation of a trade. Fails with `Store` if an amount or a number of
 /// shares exceeds its limit, or if the tax rates total more than the greatest rate.
 #[tactic(auto, unfolding(brk_model_explain::specs::TradeLines::trade_explanation_lines))]
-pub fn explained_trade(alloc: Global, details: &TradeDetails) -> Result<Vec<u8>, CallFault>
+pub fn trade_explanation_text(alloc: Global, details: &TradeDetails) -> Result<Vec<u8>, CallFault>
     ensures { IfOk result (λ text. text.items ≡ text_of_lines (lines.trade_explanation_lines (abstract_trade_details details.now))) }
 {
     let mut text = Vec::new(alloc);

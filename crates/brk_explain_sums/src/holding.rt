@@ -74,7 +74,10 @@ fn put_holding_lines(
 
 /// Returns all lines of the explanation of a holding. Fails with `Store` if an amount, a quantity
 /// or a count overflows, or if a trade has no price.
-pub fn explained_holding(alloc: Global, details: &HoldingDetails) -> Result<Vec<u8>, CallFault>
+pub fn holding_explanation_text(
+    alloc: Global,
+    details: &HoldingDetails,
+) -> Result<Vec<u8>, CallFault>
     ensures { IfOk result (λ text. text.items ≡ text_of_lines (lines_of_holding_details details.now)) }
 {
     let mut text = Vec::new(alloc);

@@ -17,7 +17,7 @@ returns g c =
     let assets = c.in_ok-assets.assets in
     let summary = c.in_ok-assets.summary in
     let amounts : Amounts = record { rates = rates; assets = assets; summary = summary } in
-    read_with g.S.Store c.args.store.now c.require_tax_rate_sum.new.store c.account_assets_with_shares.new.store {H = CallFault} rates (assets, summary) amounts
+    read_with g.S.Store c.args.store.now c.require_tax_rate_sum.new.store c.read_account_amounts.new.store {H = CallFault} rates (assets, summary) amounts
     (λ rates (t : Tables). rates ≡ customer_tax_rate_sum t account.account.customer)
     (λ (held : ℤ × Option ℤ) (t : Tables). AreAssetsAndSharesOfAccount t account order.symbol held.0 held.1)
     (λ amounts (t : Tables). EstimateAmountsMatchTables t account order amounts)
@@ -28,5 +28,5 @@ pub returns-in_err-assets : goal.returns-in_err-assets
 returns-in_err-assets g c =
     let old = c.args.store.now in
     let p = err_from_is_err_and c.from_residual-in_err-assets.result c.from_residual-in_err-assets.ensures.1 in
-    rw p.1 (failed_after g.S.Store old c.require_tax_rate_sum.new.store c.account_assets_with_shares.new.store _ p.0 _ _
+    rw p.1 (failed_after g.S.Store old c.require_tax_rate_sum.new.store c.read_account_amounts.new.store _ p.0 _ _
     (single_read_changes_nothing old c.require_tax_rate_sum.new.store _ _ c.in_ok-rates.ensures) c.in_err-assets.ensures)

@@ -6,7 +6,7 @@ use Rattle.brk_desk_decisions.specs.OrderFactReads.{AreAssetsAndSharesOfAccount}
 use Rattle.brk_store_required.specs.Valuation.{AreValuedSummariesOfAccount}
 use Rattle.brk_store.proofs.Retelling.{retold}
 use Rattle.brk_desk_decisions.proofs.OrderFinds.{find-filter}
-use Rattle.brk_desk_decisions.proofs.amounts.account_assets_with_shares.Goals as goal
+use Rattle.brk_desk_decisions.proofs.amounts.read_account_amounts.Goals as goal
 
 pub returns-in-Some : goal.returns-in-Some
 returns-in-Some g c =

@@ -1,7 +1,7 @@
 use Rattle.std.proofs.Common.{◌≡◌, Bool, true, false, ℕ, List, refl, inl, inr, ap, length, arith}
 use Rattle.brk_model.specs.Tables.{OldCashRow}
 use Rattle.brk_model_examples.proofs.OnLiterals.{model_on_literals}
-use Rattle.brk_model_examples.proofs.audits.audit_applies_limits_of_schema.Goals as goal
+use Rattle.brk_model_examples.proofs.audits.audit_depends_on_schema.Goals as goal
 
 -- how many rows there are, by which two tables differ
 left : List OldCashRow → ℕ
