@@ -24,7 +24,7 @@ use std::alloc::{AllocError, Global};
 use std::cmp::Ordering;
 
 // `run` is all completed trades of one position, in order.
-fn append_position_changes(
+fn append_lot_changes(
     alloc: Global,
     rows: &mut Vec<DealTouch>,
     run: &[&TradeRow],
@@ -54,7 +54,7 @@ fn all_lot_changes(alloc: Global, done: &[&TradeRow]) -> Result<Vec<DealTouch>, 
     while begin < done.len() {
         let trade = done[begin];
         let end = begin + 1 + position_trade_count(trade, &done[begin + 1..]);
-        append_position_changes(alloc, &mut rows, &done[begin..end])?;
+        append_lot_changes(alloc, &mut rows, &done[begin..end])?;
         begin = end;
     }
     Ok(rows)

@@ -118,7 +118,12 @@ fn execute_on_store<S: Alter, F: DeskFiles<Desk = Store<S>>, R: Read + Drop, W: 
 
 /// Executes the job on the opened desk, and closes its file. If the job is done but the file cannot
 /// be closed, returns `Open` with the fault of the close. A job that serves opens the file again if a fault closes its store between two streams.
-pub(crate) fn execute_on_file<S: Alter, F: DeskFiles<Desk = Store<S>>, R: Read + Drop, W: Write>(
+pub(crate) fn execute_job_on_opened<
+    S: Alter,
+    F: DeskFiles<Desk = Store<S>>,
+    R: Read + Drop,
+    W: Write,
+>(
     rt: &HostRuntime,
     files: &F,
     path: &str,

@@ -6,7 +6,7 @@ ghost use Rattle.brk_cli_jobs.specs.Places.{ExecutesJobAt, ExecutesJobInExisting
 ghost use Rattle.brk_cli_jobs.specs.Requested.{AnswersRequest, WritesHelpText, abstract_place};
 
 use crate::audit::write_audit_ok;
-use crate::desk::{execute_in_memory, execute_on_file};
+use crate::desk::{execute_in_memory, execute_job_on_opened};
 use crate::desk_files::DeskFiles;
 use crate::pipe::PipeWriter;
 use crate::words::check_words;
@@ -77,7 +77,7 @@ fn execute_in_existing_file<S: Alter, F: DeskFiles<Desk = Store<S>>, R: Read + D
     match check_words(rt.alloc(), job) {
         Ok(Ok(())) => {
             let opened = files.open(path);
-            execute_on_file(rt, files, path, opened, job, input, output)
+            execute_job_on_opened(rt, files, path, opened, job, input, output)
         }
         Ok(Err(refusal)) => Ending::Statement(ReportFault::Refused(refusal)),
         Err(_) => Ending::Open(Fault::Memory),
@@ -98,7 +98,7 @@ fn execute_job_at_place<S: Alter, F: DeskFiles<Desk = Store<S>>, R: Read + Drop,
         Place::Memory => execute_in_memory(rt, job, input, output),
         Place::FileOrNewFile(path) => {
             let opened = files.open_or_create(path);
-            execute_on_file(rt, files, path, opened, job, input, output)
+            execute_job_on_opened(rt, files, path, opened, job, input, output)
         }
         Place::ExistingFile(path) => execute_in_existing_file(rt, files, path, job, input, output),
     }

@@ -10,7 +10,7 @@ ghost use Rattle.brk_report_lines.specs.Written.{WritesLines};
 use crate::parse::ExplainRequest;
 use crate::sections::{write_commissions, write_open_lots, write_postings};
 use brk_desk::Desk;
-use brk_explain_lines::{end_text, header_text, lots_head_text, trade_explanation_text};
+use brk_explain_lines::{account_end_text, header_text, lots_head_text, trade_explanation_text};
 use brk_explain_rows::{AccountDetails, BrokerDetails};
 use brk_explain_sums::{broker_end_text, broker_head, holding_explanation_text};
 use brk_money::{Id, Refusal};
@@ -55,7 +55,10 @@ fn write_account_lines<W: Write, S: Alter>(
     let cash = write_postings(alloc, desk, account, row.account.opening, writer)?;
     write_lines(writer, lots_head_text(alloc, row))?;
     let lots = write_open_lots(alloc, desk, account, writer)?;
-    write_lines(writer, end_text(alloc, row, &details.held, cash, lots))
+    write_lines(
+        writer,
+        account_end_text(alloc, row, &details.held, cash, lots),
+    )
 }
 
 fn write_account<W: Write, S: Alter>(

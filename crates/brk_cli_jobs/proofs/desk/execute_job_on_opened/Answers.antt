@@ -1,5 +1,5 @@
 use Rattle.brk_cli_jobs.proofs.Placed.{on_opened}
-use Rattle.brk_cli_jobs.proofs.desk.execute_on_file.Goals as goal
+use Rattle.brk_cli_jobs.proofs.desk.execute_job_on_opened.Goals as goal
 
 pub returns-in-Ok : goal.returns-in-Ok
 returns-in-Ok g c =
