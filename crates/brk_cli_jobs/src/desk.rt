@@ -117,7 +117,8 @@ fn execute_on_store<S: Alter, F: DeskFiles<Desk = Store<S>>, R: Read + Drop, W: 
 }
 
 /// Executes the job on the opened desk, and closes its file. If the job is done but the file cannot
-/// be closed, returns `Open` with the fault of the close. A job that serves opens the file again if a fault closes its store between two streams.
+/// be closed, returns `Open` with the fault of the close. A job that serves opens the file again
+/// before a stream if a fault has closed its store.
 pub(crate) fn execute_job_on_opened<
     S: Alter,
     F: DeskFiles<Desk = Store<S>>,
