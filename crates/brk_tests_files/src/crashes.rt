@@ -7,10 +7,10 @@ use crate::machine::{
     File, Held, MachineCrash, Sent, files_after_sql, files_with_reference_data,
     run_batch_until_crash,
 };
-use brk_tests::cuts::{ROWS, all_lines_of_retry};
-use brk_tests::desks::{connection_of_desk, desk_with_reference_data, open_in_memory};
-use brk_tests::worked;
-use brk_tests::worked::{
+use brk_tests_desks::desks::{connection_of_desk, desk_with_reference_data, open_in_memory};
+use brk_tests_desks::retried::{ROWS, all_lines_of_retry};
+use brk_tests_desks::worked;
+use brk_tests_desks::worked::{
     LAST_FIRST_LINES, LAST_FIRST_ROWS, SET, SET_LINES, format_batch, lines_of_retry,
 };
 use sqlite::{Alter, Connection};

@@ -2,7 +2,7 @@
 //! stores the bytes that were not synced, and restarts.
 
 use crate::jobs::{Ended, Job, Observation, Task, perform_job};
-use brk_tests::worked::SET;
+use brk_tests_desks::worked::SET;
 use sqlite::{Connection, FileStore, Files, Options};
 use sqlite_disk::{Crash, Disk, Fuse, Memory};
 use std::alloc::{AllocError, Global};

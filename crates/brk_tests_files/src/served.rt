@@ -1,20 +1,20 @@
 //! Test of a service whose file fails at each of its calls: the file is opened again before the
 //! next stream, or the service ends.
 
+use crate::crashes::{STOPS, fail_unless, tables_after_each_row};
+use crate::jobs::Observation;
+use crate::machine::{
+    CACHED_PAGES, Held, MachineCrash, close_database, files_after_crash, files_failing_at_crash,
+    files_with_reference_data, open_database, options_with_cached_pages, run_batch_until_crash,
+};
 use brk_cli_exit::Ending;
 use brk_cli_jobs::{DeskFiles, serve_file_on};
 use brk_money::Fault;
 use brk_store::Store;
-use brk_tests::Still;
-use brk_tests::cuts::{ROWS, all_lines_of_retry};
-use brk_tests::worked::format_batch;
-use brk_tests_files::crashes::{STOPS, fail_unless, tables_after_each_row};
-use brk_tests_files::http::streams::format_post_request;
-use brk_tests_files::jobs::Observation;
-use brk_tests_files::machine::{
-    CACHED_PAGES, Held, MachineCrash, close_database, files_after_crash, files_failing_at_crash,
-    files_with_reference_data, open_database, options_with_cached_pages, run_batch_until_crash,
-};
+use brk_tests_desks::Still;
+use brk_tests_desks::requests::format_post_request;
+use brk_tests_desks::retried::{ROWS, all_lines_of_retry};
+use brk_tests_desks::worked::format_batch;
 use sqlite::{Alter, Connection, FileStore, Files};
 use sqlite_disk::{Fuse, Memory};
 use std::alloc::{AllocError, Global};

@@ -121,7 +121,7 @@ pub fn write_statement<W: Write, S: Alter>(
 /// Checks that the text `told` has exactly the lines `wanted`. Fails with `name`, `what` and the
 /// number, counted from 1, of the first line that differs, and with `name` and `what` if no line
 /// differs but the texts do, for example because lines are missing or there are more.
-pub fn expect_lines(name: &str, what: &str, told: &str, wanted: &str) -> Result<(), Fail> {
+pub(crate) fn expect_lines(name: &str, what: &str, told: &str, wanted: &str) -> Result<(), Fail> {
     let mut at = 0u64;
     for (line, want) in told.lines().zip(wanted.lines()) {
         at = at.saturating_add(1);

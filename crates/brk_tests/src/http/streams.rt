@@ -1,23 +1,14 @@
-//! Tests of streams of requests: in pieces, with heads of each length, and over a store that fails.
+//! Tests of streams of requests: in pieces, and with heads of each length.
 
-use crate::jobs::{Ended, Job, Observation, Task};
-use crate::machine::{Held, MachineCrash, Sent, perform_job_until_crash};
 use brk_desk::Desk;
 use brk_http::ServeFault;
-use brk_tests::desks::{desk_with_reference_data, expect, open_in_memory, serve_stream_of_reader};
-use brk_tests::faulty::Failing;
-use sqlite::{Alter, Connection, Options};
+use brk_tests_desks::desks::{desk_with_reference_data, serve_stream_of_reader};
+use brk_tests_desks::faulty::Failing;
+use brk_tests_desks::requests::{WantedReply, format_wanted_reply};
+use brk_tests_desks::{expect, open_in_memory};
+use sqlite::{Alter, Connection};
 use std::alloc::{AllocError, Global};
 use std::test::Fail;
-
-/// A wanted reply: the digits and the phrase of its status, and its body.
-#[derive(Clone, Copy)]
-pub enum WantedReply {
-    /// The stream continues after the reply.
-    Open(&'static str, &'static str),
-    /// The reply ends the stream.
-    Last(&'static str, &'static str),
-}
 
 /// Serves a stream, whose bytes arrive in pieces of at most `size` bytes, on a desk at 2024-03-01
 /// 00:00 UTC. Returns the bytes that were written, and the number of replies or the fault.
@@ -35,26 +26,6 @@ pub fn serve_stream_in_pieces<S: Alter>(
         desk,
     );
     (out, ended)
-}
-
-/// Returns the text of a POST request with this target and this body. Fails only if memory runs
-/// out.
-pub fn format_post_request(alloc: Global, target: &str, body: &str) -> Result<String, AllocError> {
-    let len = body.len();
-    format!(in alloc; "POST {target} HTTP/1.1\r\nHost: desk\r\nContent-Length: {len}\r\n\r\n{body}")
-}
-
-/// Returns the text of a wanted reply: its status line, content type and content length, a
-/// `Connection: close` line if it ends the stream, and its body. Fails only if memory runs out.
-pub fn format_wanted_reply(alloc: Global, wanted: WantedReply) -> Result<String, AllocError> {
-    let (status, body, close) = match wanted {
-        WantedReply::Open(status, body) => (status, body, ""),
-        WantedReply::Last(status, body) => (status, body, "Connection: close\r\n"),
-    };
-    let len = body.len();
-    format!(in alloc;
-        "HTTP/1.1 {status}\r\nContent-Type: application/json\r\nContent-Length: {len}\r\n{close}\r\n{body}"
-    )
 }
 
 // Returns true if the bytes `out` that a stream wrote are exactly the wanted replies, and the
@@ -86,10 +57,10 @@ pub fn serve_stream_on_new_desk<S: Alter + Drop>(
     Ok(serve_stream_in_pieces(alloc, &mut desk, bytes, size))
 }
 
-/// Serves a stream in pieces of 4,096, of seven and of one byte, each time on a new desk in memory
-/// after the batch `SET`, until the replies differ from the wanted ones. Returns true if the stream
-/// has exactly the wanted replies each time. Fails if a desk cannot be set up or memory runs out.
-pub fn has_wanted_replies_when_split(
+// Serves a stream in pieces of 4,096, of seven and of one byte, each time on a new desk in memory
+// after the batch `SET`, until the replies differ from the wanted ones. Returns true if the stream
+// has exactly the wanted replies each time. Fails if a desk cannot be set up or memory runs out.
+fn has_wanted_replies_when_split(
     alloc: Global,
     bytes: &[u8],
     wanted: &[WantedReply],
@@ -187,75 +158,4 @@ pub fn a_head_has_at_most_16_384_bytes(alloc: Global) -> Result<(), Fail> {
         )?;
     }
     Ok(())
-}
-
-// Serves a stream on a new desk in files whose log accepts `calls` calls and fails at each later
-// call. Returns the observation, whose outcome is `NotBegun` if the database cannot be opened or
-// the desk cannot be created. Fails only if memory runs out.
-fn serve_with_failing_log(alloc: Global, calls: u64, input: &[u8]) -> Result<Observation, Fail> {
-    let Sent { seen, .. } = perform_job_until_crash(
-        alloc,
-        &Held::empty_files(alloc),
-        MachineCrash::after_log_calls(calls),
-        Options::new(1),
-        Job::Desk(Task::Stream),
-        input,
-    )?;
-    Ok(seen)
-}
-
-// Returns the text of two requests, a row that adds broker 1 and a query for the submitted trades.
-// Fails only if memory runs out.
-fn two_requests(alloc: Global) -> Result<String, AllocError> {
-    let mut input = format_post_request(alloc, "/rows/F/1", "[\"broker\",\"1\",\"Bo\"]")?;
-    input.push_str(format_post_request(alloc, "/ask/submitted", "[]")?.as_str())?;
-    Ok(input)
-}
-
-// Returns the text of the wanted replies to the requests of `two_requests` on a new desk whose disk
-// does not fail: the row is accepted, and the view has no trades. Fails only if memory runs out.
-fn replies_to_two_requests(alloc: Global) -> Result<String, AllocError> {
-    let mut replies = format_wanted_reply(
-        alloc,
-        WantedReply::Open("200 OK", "{\"ok\":[\"1709251200000\"]}"),
-    )?;
-    replies.push_str(format_wanted_reply(
-        alloc,
-        WantedReply::Open("200 OK", "{\"view\":[]}"),
-    )?.as_str())?;
-    Ok(replies)
-}
-
-/// Checks, for a log that fails after 0, 1, 2 and more calls, that the reply to a row is 503 and
-/// the last of its stream, until the row and the query after it both have their replies, which must
-/// be with fewer than 1,000 calls. Numbers of calls with which the desk cannot be created are
-/// skipped. Checks also that at least one stream has the reply 503.
-pub fn a_store_fault_is_the_last_reply(alloc: Global) -> Result<(), Fail> {
-    let input = two_requests(alloc)?;
-    let wanted = format_wanted_reply(
-        alloc,
-        WantedReply::Last("503 Service Unavailable", "{\"error\":\"store\"}"),
-    )?;
-    let whole = replies_to_two_requests(alloc)?;
-    let mut faults = 0u64;
-    let mut booked = false;
-    for calls in 0..1_000 {
-        let seen = serve_with_failing_log(alloc, calls, input.as_bytes())?;
-        match seen.ended {
-            Ended::NotBegun => (),
-            Ended::Served(2) => {
-                booked = seen.lines.as_slice() == whole.as_bytes();
-                break;
-            }
-            Ended::Served(1) => {
-                expect(
-                    seen.lines.as_slice() == wanted.as_bytes(),
-                    format_args!("after {calls} calls"),
-                )?;
-                faults = faults.saturating_add(1);
-            }
-            _ => expect(false, format_args!("after {calls} calls"))?,
-        }
-    }
-    expect(faults > 0 && booked, "no fault, or no reply")
 }

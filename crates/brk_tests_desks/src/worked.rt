@@ -125,7 +125,7 @@ pub fn format_batch(alloc: Global, rows: &[&str]) -> Result<String, Fail> {
 
 /// Appends a line for each reply in `lines`, in the form in which a batch writes it: the number of
 /// its row, counted from `first`, the word `word`, and the reply. Fails only if memory runs out.
-pub fn append_reply_lines(
+pub(crate) fn append_reply_lines(
     told: &mut String,
     first: u64,
     word: &str,

@@ -1,15 +1,14 @@
 //! Tests of a stream that is cut at each of its bytes, and of a stream whose reader or writer fails
 //! at each byte. After a fault the whole stream is retried and completes.
 
-use crate::http::streams::{
-    WantedReply, format_post_request, format_wanted_reply, serve_stream_in_pieces,
-    serve_stream_on_new_desk,
-};
+use crate::http::streams::{serve_stream_in_pieces, serve_stream_on_new_desk};
 use brk_desk::Desk;
 use brk_http::{FaultKind, ServeFault};
-use brk_tests::desks::{desk_with_reference_data, open_in_memory, serve_stream_of_reader};
-use brk_tests::faulty::{Failing, Narrow};
-use brk_tests::tables::expect_all_tables;
+use brk_tests_desks::desks::{desk_with_reference_data, serve_stream_of_reader};
+use brk_tests_desks::faulty::{Failing, Narrow};
+use brk_tests_desks::open_in_memory;
+use brk_tests_desks::requests::{WantedReply, format_post_request, format_wanted_reply};
+use brk_tests_desks::tables::expect_all_tables;
 use sqlite::{Alter, Connection};
 use std::alloc::{AllocError, Global};
 use std::io::ErrorKind;
