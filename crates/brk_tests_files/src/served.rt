@@ -1,5 +1,5 @@
-//! Test of a service whose file fails at each of its calls: the file is opened again before the
-//! next stream, or the service ends.
+//! Test of a service whose file fails: if the fault closes the store, the file is opened again
+//! before the next stream, or the service ends.
 
 use crate::crashes::{STOPS, fail_unless, tables_after_each_row};
 use crate::jobs::Observation;
@@ -19,16 +19,22 @@ use sqlite::{Alter, Connection, FileStore, Files};
 use sqlite_disk::{Fuse, Memory};
 use std::alloc::{AllocError, Global};
 use std::cell::Cell;
-use std::io;
-use std::io::Write;
+use std::io::{Read, Write};
 use std::net::{Shutdown, TcpListener, TcpStream};
 use std::test::Fail;
 
-// The number of streams of a service. Each of them sends all rows of `ROWS`.
+// The number of streams of a service. Each of them sends a query and then all rows of `ROWS`.
 const STREAMS: u32 = 3;
 
-// A number of calls that is greater than that of each file in each service.
-const MOST_CALLS: u64 = 10_000;
+// The number of replies 200 to a stream whose query and six rows are all accepted.
+const ALL_REPLIES: usize = 7;
+
+// The test fails a file at every thirteenth of its calls; tools/trials/try_faults fails each call of
+// the program.
+const STEP: u64 = 13;
+
+// A number of faults that is greater than that of each file in each service.
+const MOST_FAULTS: u64 = 2_000;
 
 // The two files of a desk in memory: the bytes that they have while they are closed, how they fail
 // when they are opened next, and at all later times, and how often they were opened.
@@ -141,10 +147,10 @@ fn json_of_row(alloc: Global, row: &str) -> Result<String, AllocError> {
     Ok(json)
 }
 
-// Returns the text of a request for each row of `ROWS`, under the keys of the batch of
-// `format_batch`. Fails only if memory runs out.
-fn requests_of_rows(alloc: Global) -> Result<String, Fail> {
-    let mut requests = String::new(alloc);
+// Returns the text of a request for the last trades of account 100, and of one for each row of
+// `ROWS`, under the keys of the batch of `format_batch`. Fails only if memory runs out.
+fn requests_of_stream(alloc: Global) -> Result<String, Fail> {
+    let mut requests = format_post_request(alloc, "/ask/recent", "[\"100\"]")?;
     let mut number = 1u64;
     for row in ROWS {
         let target = format!(in alloc; "/rows/T/{number}")?;
@@ -173,20 +179,30 @@ fn connect_peers_and_send(
     Ok(peers)
 }
 
+// Returns the number of lines of `told` that begin a reply 200, or 0 if it is not UTF-8.
+fn count_replies_200(told: &[u8]) -> usize {
+    let Ok(told) = str::from_utf8(told) else {
+        return 0;
+    };
+    let mut count = 0usize;
+    for line in told.lines() {
+        if line.ends_with("HTTP/1.1 200 OK") {
+            count = count.saturating_add(1);
+        }
+    }
+    count
+}
+
 // Returns the number of replies 200 that each peer receives. A stream that was not accepted has
 // none. Fails only if memory runs out.
-fn count_accepted_rows(alloc: Global, peers: Vec<TcpStream>) -> Result<Vec<usize>, Fail> {
+fn replies_200_of_peers(alloc: Global, peers: Vec<TcpStream>) -> Result<Vec<usize>, Fail> {
     let mut counts = Vec::new(alloc);
     for peer in peers {
-        let mut count = 0usize;
-        if let Ok(told) = io::read_to_string(alloc, peer) {
-            for line in told.as_str().lines() {
-                if line.ends_with("HTTP/1.1 200 OK") {
-                    count = count.saturating_add(1);
-                }
-            }
-        }
-        counts.push(count)?;
+        let (mut peer, mut told) = (peer, Vec::new(alloc));
+        // a connection that the service resets, because it did not read all requests, keeps the
+        // replies before
+        let _ = peer.read_to_end(&mut told);
+        counts.push(count_replies_200(told.as_slice()))?;
     }
     Ok(counts)
 }
@@ -218,37 +234,72 @@ fn serve_rows(
     let peers = connect_peers_and_send(rt, &listener, requests)?;
     let ending = serve_streams_on_files(rt.alloc(), files, &listener, store);
     drop(listener);
-    Ok(Some((ending, count_accepted_rows(rt.alloc(), peers)?)))
+    Ok(Some((ending, replies_200_of_peers(rt.alloc(), peers)?)))
 }
 
-// Checks that a stream that has not a reply 200 to each row is followed by one that has or, if
-// files that are opened again fail (`goes_on`), by the end of the service with `Open(Store)`.
-// Returns the greatest number of rows that a stream has replies 200 to. Fails if not all of this is
-// so.
-fn expect_rows_accepted_again(
-    stop: MachineCrash,
-    goes_on: bool,
-    ending: &Ending,
-    counts: &[usize],
-) -> Result<usize, Fail> {
-    let ends_with_fault = matches!(ending, Ending::Open(Fault::Store));
+// What a service did: its ending, the number of replies 200 of each stream, and how often its files
+// were opened.
+#[derive(Drop)]
+struct Served {
+    ending: Ending,
+    counts: Vec<usize>,
+    openings: u64,
+}
+
+impl Served {
+    fn ended_with_store_fault(&self) -> bool {
+        matches!(&self.ending, Ending::Open(Fault::Store))
+    }
+
+    fn was_reopened(&self) -> bool {
+        self.openings > 1
+    }
+
+    // Returns true if the files were opened once, and the last stream has all replies.
+    fn had_no_fault(&self) -> bool {
+        let is_done = matches!(&self.ending, Ending::Done);
+        is_done && !self.was_reopened() && self.last_has_all_replies()
+    }
+
+    fn last_has_all_replies(&self) -> bool {
+        match self.counts.last() {
+            Some(count) => *count == ALL_REPLIES,
+            None => false,
+        }
+    }
+
+    // Returns the greatest number of rows that a stream has replies 200 to.
+    fn accepted_rows(&self) -> usize {
+        let mut most = 0usize;
+        for count in &self.counts {
+            most = most.max(count.saturating_sub(1));
+        }
+        most
+    }
+}
+
+// Checks that each stream after that of the fault has a reply to its query, since its store is open:
+// the old one, or that of the files, opened again. Without a reply the service must have ended,
+// because the files that were opened again failed (`goes_on`). Otherwise the last stream after an
+// opening has all replies. Fails if not all of this is so.
+fn expect_streams_served(stop: MachineCrash, goes_on: bool, served: &Served) -> Result<(), Fail> {
+    let may_end = goes_on && served.was_reopened() && served.ended_with_store_fault();
     fail_unless(
-        ends_with_fault || matches!(ending, Ending::Done),
+        served.ended_with_store_fault() || matches!(&served.ending, Ending::Done),
         stop,
         "another ending",
     )?;
-    let (mut most, mut is_whole) = (0usize, true);
-    for count in counts {
-        let may_be = if goes_on {
-            *count == 0 && ends_with_fault
-        } else {
-            *count == ROWS.len()
-        };
-        fail_unless(is_whole || may_be, stop, "neither all replies nor the end")?;
-        is_whole = *count == ROWS.len();
-        most = most.max(*count);
+    let mut had_fault = false;
+    for count in &served.counts {
+        let may_be = *count > 0 || may_end || !had_fault;
+        fail_unless(may_be, stop, "a closed store was served")?;
+        had_fault = had_fault || *count < ALL_REPLIES;
     }
-    Ok(most)
+    fail_unless(
+        goes_on || !served.was_reopened() || served.last_has_all_replies(),
+        stop,
+        "an opened file was not served",
+    )
 }
 
 // Checks that the tables before the batch are those after `accepted` rows, or after one row more.
@@ -289,23 +340,27 @@ fn expect_batch_completed(
     fail_unless(is_completed, stop, "the batch is not completed")
 }
 
-// Serves `STREAMS` streams of all rows on the desk in the files, and checks what
-// `expect_rows_accepted_again` checks. Returns the greatest number of rows that a stream has
-// replies 200 to, and true if the service was done without opening the files again. If the files
-// cannot be opened, nothing is served, and the number is 0. Fails also if a socket of this machine
-// cannot be used, or if memory runs out.
+// Serves `STREAMS` streams on the desk in the files, and checks what `expect_streams_served` checks.
+// Returns the number of rows that were accepted, and true if there was no fault. If the files cannot
+// be opened, nothing is served, and the number is 0. Fails also if a socket of this machine cannot
+// be used, or if memory runs out.
 fn expect_rows_served(
     rt: &HostRuntime,
     stop: MachineCrash,
     goes_on: bool,
     files: &FailingFiles,
 ) -> Result<(usize, bool), Fail> {
-    let requests = requests_of_rows(rt.alloc())?;
+    let requests = requests_of_stream(rt.alloc())?;
     match serve_rows(rt, files, requests.as_str())? {
         Some((ending, counts)) => {
-            let accepted = expect_rows_accepted_again(stop, goes_on, &ending, &counts)?;
-            let is_done = matches!(&ending, Ending::Done);
-            Ok((accepted, is_done && files.openings.get() == 1))
+            let openings = files.openings.get();
+            let served = Served {
+                ending,
+                counts,
+                openings,
+            };
+            expect_streams_served(stop, goes_on, &served)?;
+            Ok((served.accepted_rows(), served.had_no_fault()))
         }
         None => Ok((0, false)),
     }
@@ -313,9 +368,9 @@ fn expect_rows_served(
 
 // Serves the rows on the desk in the files `start`, which fail by `stop` when they are opened
 // first. When they are opened again they fail at once if `goes_on` is true, and otherwise never.
-// Checks what `expect_rows_served` and `expect_batch_completed` check. Returns true if the service
-// was done without opening the files again. Fails if not all of this is so, if a socket of this
-// machine cannot be used, or if memory runs out.
+// Checks what `expect_rows_served` and `expect_batch_completed` check. Returns true if there was no
+// fault. Fails if not all of this is so, if a socket of this machine cannot be used, or if memory
+// runs out.
 fn expect_service_recovered(
     rt: &HostRuntime,
     stop: MachineCrash,
@@ -338,16 +393,19 @@ fn expect_service_recovered(
     Ok(is_done)
 }
 
-// Serves the rows with a failure of `stop` at each call of its file in turn, until a service is
-// done without opening its files again, and checks each service (`expect_service_recovered`).
+// Serves the rows with a failure of `stop` at every thirteenth call of its file in turn, from the
+// call `first` on, until a service has no fault, and checks each service
+// (`expect_service_recovered`).
 fn expect_each_service_recovered(
     rt: &HostRuntime,
     stop: MachineCrash,
+    first: u64,
     goes_on: bool,
     start: &Held,
     tables: &[String],
 ) -> Result<(), Fail> {
-    for calls in 0..MOST_CALLS {
+    for number in 0..MOST_FAULTS {
+        let calls = number.saturating_mul(STEP).saturating_add(first);
         let stop = MachineCrash { calls, ..stop };
         if expect_service_recovered(rt, stop, goes_on, start, tables)? {
             return Ok(());
@@ -356,20 +414,22 @@ fn expect_each_service_recovered(
     Err("always stopped")?
 }
 
-/// Checks the service of a desk in files that serves all rows of `ROWS` on each of three streams,
-/// and whose log or database file fails at each of its calls in turn, with the bytes that were not
-/// synced lost or stored. If the files can be opened again, a stream after the failure has a reply
-/// to each row; if they fail again at once, the service ends with `Open(Store)`. In both cases the
-/// desk in the files has all rows that were accepted, or one row more, and its batch can be
-/// completed.
+/// Checks the service of a desk in files that serves a query and all rows of `ROWS` on each of
+/// three streams, and whose log or database file fails at every thirteenth of its calls in turn, and
+/// at all later ones, with the bytes that were not synced lost or stored. A stream after the failure
+/// has a reply to its query: its store is open, or the files were opened again. If they can be, the
+/// last stream has a reply to each row; if they fail again at once, the service ends with
+/// `Open(Store)`. In both cases the desk in the files has all rows that were accepted, or one row
+/// more, and its batch can be completed.
 pub fn a_served_desk_recovers_from_disk_faults(rt: &HostRuntime) -> Result<(), Fail> {
     let alloc = rt.alloc();
     let tables = tables_after_each_row(alloc)?;
     let start = files_with_reference_data(alloc)?;
+    let (mut first, mut goes_on) = (0u64, false);
     for stop in STOPS {
-        for goes_on in [false, true] {
-            expect_each_service_recovered(rt, stop, goes_on, &start, &tables)?;
-        }
+        expect_each_service_recovered(rt, stop, first, goes_on, &start, &tables)?;
+        first = first.saturating_add(1);
+        goes_on = !goes_on;
     }
     Ok(())
 }
