@@ -30,6 +30,7 @@ fn collect_done(alloc: Global, trades: &[TradeRow]) -> Result<Vec<&TradeRow>, Al
     Ok(done)
 }
 
+// By account, then by symbol, then by stamp.
 fn position_order(one: &TradeRow, other: &TradeRow) -> Ordering
     ensures { is_lt result ≡ is_before_by_position (abstract_trade_row one.now) (abstract_trade_row other.now) }
 {

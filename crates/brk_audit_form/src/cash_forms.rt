@@ -29,7 +29,7 @@ fn security_name<'a>(sheets: &'a Sheets, symbol: &Symbol) -> &'a str
     }
 }
 
-fn push_quantity(name: &mut String, qty: Qty, words: &str) -> Result<(), AllocError>
+fn append_cash_text_quantity(name: &mut String, qty: Qty, words: &str) -> Result<(), AllocError>
     ensures { OnOk result (string_bytes name.new ≡ string_bytes name.old ++ (32 ∷ decimal qty ++ words.now)) }
 {
     write!(name, " {}{}", qty.get(), words)
@@ -45,7 +45,7 @@ fn text_of_trade(
     ensures name { IfOk result (λ name. string_bytes name ≡ cash_row_name_from_parts words.now trade.now.kind trade.now.qty security.now) }
 {
     let mut name = String::from_str(alloc, trade.kind.name())?;
-    push_quantity(&mut name, trade.qty, words)?;
+    append_cash_text_quantity(&mut name, trade.qty, words)?;
     name.push_str(security)?;
     Ok(name)
 }

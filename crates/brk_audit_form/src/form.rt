@@ -11,7 +11,7 @@ ghost use Rattle.brk_audit_form.specs.Groups.{passes_nonallocating_form_checks};
 use crate::bands::are_disjoint;
 use crate::cash_forms::{are_valid_cash_rows, are_valid_old_cash_rows};
 use crate::cash_trades::have_distinct_trades;
-use crate::customer_limits::limits_are_kept;
+use crate::customer_limits::are_within_customer_limits;
 use crate::numbers::{are_numbered, is_within_movement_limit};
 use crate::tables::{are_reference_rows_valid, are_trading_rows_valid, has_sorted_tables};
 use crate::tax_ids::have_distinct_tax_ids;
@@ -82,7 +82,7 @@ pub fn meets_form(alloc: Global, schema: Schema, sheets: &Sheets) -> Result<bool
     if !has_distinct_tax_ids {
         return Ok(false);
     }
-    let has_limits = limits_are_kept(alloc, sheets)?;
+    let has_limits = are_within_customer_limits(alloc, sheets)?;
     if !has_limits {
         return Ok(false);
     }

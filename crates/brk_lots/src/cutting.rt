@@ -8,7 +8,8 @@ ghost use Rattle.brk_lots.specs.Walks.{touches_of_first_shares, lots_after_touch
 
 use crate::lot::{Lot, Touch};
 
-// Closed lots stay in the vector, before the returned index, so that no lot is moved.
+// Closes the lots before `last`, and leaves `last` with `qty` shares, or closes it too at 0. Closed
+// lots stay in the vector, before the returned index, so that no lot is moved.
 fn close_front(lots: &mut Vec<Lot>, last: usize, qty: i64) -> usize
     // `last` is the index of a lot.
     requires { last < vec_len lots.old }

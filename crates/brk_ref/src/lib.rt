@@ -73,8 +73,8 @@ pub use lot_change::LotChange;
 pub use moved_amount::MovedAmount;
 pub use name::Name;
 pub use numbers::{
-    parse_balance, parse_charge_amount, parse_id, parse_moved, parse_price, parse_qty, parse_rate,
-    parse_tax_rate, parse_tax_status,
+    parse_balance, parse_charge_amount, parse_id, parse_moved_amount, parse_price, parse_qty,
+    parse_rate, parse_tax_rate, parse_tax_status,
 };
 pub use old_cash_row::OldCashRow;
 pub use permission::{Permission, check_permission};

@@ -108,7 +108,7 @@ pub fn parse_charge_amount(bytes: &[u8]) -> Option<ChargeAmount>
 }
 
 /// Parses an amount, such as `250.00`.
-pub fn parse_moved(bytes: &[u8]) -> Option<MovedAmount>
+pub fn parse_moved_amount(bytes: &[u8]) -> Option<MovedAmount>
     ensures { ok_or result BadText ≡ read_movement_amount bytes.now }
 {
     let Some(cents) = parse_unsigned_cents(bytes) else {

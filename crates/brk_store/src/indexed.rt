@@ -119,6 +119,7 @@ fn read_lot_of_age<S: Alter>(
     Ok(row)
 }
 
+// Reads a page: at most 16 lots after the first `skipped`, in the order in which they are closed.
 fn read_lots_of_ages<S: Alter>(
     conn: &mut Connection<S>,
     alloc: Global,

@@ -30,7 +30,8 @@ use std::marker::Model;
 /// the store, a crash may expose the changes of the call as committed.
 pub struct Store<S: Alter> {
     pub(crate) conn: Connection<S>,
-    // True only if the database, while it is open, has the tables of a desk with some rows.
+    // True only if the database, while it is open, has the tables of a desk with some rows. False also
+    // once the index could not be made.
     pub(crate) known: bool,
     // The index of the lots, or `None` if it was not made yet, or could not be kept.
     pub(crate) index: Option<LotIndex>,

@@ -10,7 +10,7 @@ use Rattle.brk_ref.specs.Records.{abstract_account_row, abstract_customer}
 use Rattle.brk_trade_rows.specs.Sheets.{abstract_sheets}
 use Rattle.brk_audit_form.specs.Customers.{sum_at_customer_id}
 use Rattle.brk_audit_form.proofs.CustomerSums.{count-mapped}
-use Rattle.brk_audit_form.proofs.customer_limits.limits_are_kept.Goals as goal
+use Rattle.brk_audit_form.proofs.customer_limits.are_within_customer_limits.Goals as goal
 
 pub returns : goal.returns
 unfolding base_of_tables

@@ -5,7 +5,7 @@ use Rattle.brk_money.specs.declared.cents.TheConstants.Cents
 use Rattle.brk_money.specs.declared.refusal.Refusal.TheVariants.{BadText}
 use Rattle.brk_model.specs.Forms.{nonnegative_amount}
 use Rattle.brk_ref.proofs.Limits.{within_limits}
-use Rattle.brk_ref.proofs.numbers.parse_moved.Goals as goal
+use Rattle.brk_ref.proofs.numbers.parse_moved_amount.Goals as goal
 
 pub returns : goal.returns
 returns c =
