@@ -1,5 +1,4 @@
--- Connections to database files that were newly opened, or that were closed, and the relations of
--- opening and closing a desk.
+-- Newly opened or closed connections to database files, and how a desk is opened and closed.
 use Rattle.std.specs.Prelude.{ℕ, List, Result}
 use Rattle.sqlite_disk.specs.declared.Disk.{Ghosts}
 use Rattle.sqlite_disk.specs.declared.Files.{Files}
@@ -15,8 +14,7 @@ use Rattle.brk_money.specs.declared.fault.Fault.{Fault}
 pub record IsNewConnectionToFile {D : Type 0} {g : Ghosts D} (conn : Held (FileStore D g)) : Type 0 where
   -- The connection is open. Vacuous if the disk assumption fails.
   pub opened : HasCleanDisk (file_state conn) → IsOpened conn
-  -- The connection is new: it is in no transaction, has changed no row, has the last row id 0, and
-  -- has no step limit.
+  -- The connection is new: in no transaction, with no row changed, last row id 0, no step limit.
   pub fresh : IsNew conn
 
 -- The connection `conn` was open, its last commit is in a database file, also without its log, and

@@ -35,8 +35,7 @@ pub record ExecutesJobOnNewStore {R : Type 0} (machine : Bor R) (job : Job) (io 
   pub created : CreatePost over_memory conn old (Ok tt)
   pub executed : ExecutesJob over_memory machine job old new io end
 
--- The job was executed on a new desk in memory (`ExecutesJobOnNewStore`), or the desk could not be
--- created.
+-- The job was executed on a new desk in memory, or the desk could not be created.
 abbrev pub ExecutesJobInMemory : {R : Type 0} → Bor R → Job → InputAndOutput → Ending → Type 0
 ExecutesJobInMemory machine job io end = ((fault : Fault) × FailsToOpen fault io end) ⊎ ExecutesJobOnNewStore machine job io end
 
@@ -74,9 +73,8 @@ pub record ExecutesJobInFile {S R : Type 0} (g : Ghosts S) (opens reopens : Open
   pub opened : opens path result
   pub executed : ExecutesJobOnOpened g reopens closes machine job path result io end
 
--- The words of the job have the result `words`. `Ok`: the file at the path was opened, and the job
--- was executed on its store. `Err`: the ending is the refusal, no job was executed, and nothing was
--- written.
+-- `words` is the result of parsing the job's words. `Ok`: the file at the path was opened, and the
+-- job was executed on its store. `Err`: the ending is the refusal; nothing was executed or written.
 abbrev pub OpensUnlessRefused : {S R : Type 0} → Result (Unit {0}) Refusal → Ghosts S → OpenRelation S → CloseRelation S → Bor R → Job → List ℕ → InputAndOutput
     → Ending → Type 0
 OpensUnlessRefused (Ok u) g opens closes machine job path io end = ExecutesJobInFile g opens opens closes machine job path io end
@@ -123,8 +121,7 @@ abbrev pub PrintsOkAfterAudit : Job → Ending → Option Text → Option Text �
 PrintsOkAfterAudit (job.Audit db) ending.Done before after end = WritesAuditOk before after end
 PrintsOkAfterAudit job reached before after end = (end ≡ reached) × (after ≡ before)
 
--- The job was executed once, on the desk at its place, and after an audit that passed `ok` was
--- written.
+-- The job was executed once, on the desk at its place; after a passed audit `ok` was written.
 pub record RunsJob {S R : Type 0} (g : Ghosts S) (creates opens : OpenRelation S) (closes : CloseRelation S) (machine : Bor R) (job : Job) (io : InputAndOutput)
     (end : Ending) : Type 0 where
   -- The ending and the writer's content before the `ok` of an audit.

@@ -1,7 +1,6 @@
 -- What the job that serves does with a desk in a file: each stream is served by the desk of the
--- stream before or, if the fault `Store` was found in between, by the desk of the file that was
--- opened again. `opens` and `closes` are the relations of the files (`DeskFiles`), `gives` is the
--- relation of a reading of the clock.
+-- stream before or, if the fault `Store` was found in between, by that of the file opened again.
+-- `opens` and `closes` are relations of the files (`DeskFiles`), `gives` that of a clock reading.
 use Rattle.std.specs.Prelude.{◌≡◌, ◌⊎◌, ◌<◌, ℕ, zero, suc, Bool, true, false, List, [], ◌∷◌, Option, Result, Ok, Err}
 use Rattle.std.specs.Borrow.{Bor}
 use Rattle.sqlite_trees.specs.declared.store.Store.{Ghosts}
@@ -41,8 +40,7 @@ abbrev pub IsQuery : made.Call → Type 0
 IsQuery (call.Ask query) = Unit {0}
 IsQuery (call.Do command key) = ⊥
 
--- One query of the desk was executed, which turned it from `old` to `new`. `failed`: its outcome is
--- the fault `Store`.
+-- One query turned the desk from `old` to `new`. `failed`: its outcome is the fault `Store`.
 pub record AsksDesk {S : Type 0} (g : Ghosts S) (old new : Held S) (failed : Bool) : Type 0 where
   pub time : ℕ
   pub query : made.Call
@@ -72,13 +70,11 @@ abbrev pub KeepsDesk : {S : Type 0} → Ghosts S → Held S → Result (Held S) 
 KeepsDesk g old (Ok new) = AsksDesk g old new false
 KeepsDesk g old (Err fault) = ⊥
 
--- The desk for the next stream after the desk `old`: the desk is kept, or its file was opened again,
--- which may have failed.
+-- The desk for the next stream: `old` itself, or its file opened again, which may have failed.
 abbrev pub ReadiesDesk : {S : Type 0} → Ghosts S → OpenRelation S → CloseRelation S → List ℕ → Held S → Result (Held S) Fault → Type 0
 ReadiesDesk g opens closes path old result = KeepsDesk g old result ⊎ ReopensDesk g opens closes path old result
 
--- One stream was served after the desk `old`, with the result `result`. `desk` is the desk that
--- served it, and `new` this desk after it.
+-- The desk `desk` served one stream after `old`, with the result `result`, and became `new`.
 pub record ServesStream {S C : Type 0} (g : Ghosts S) (opens : OpenRelation S) (closes : CloseRelation S) (gives : C → ℕ → C → Type 0) (path : List ℕ)
     (clock later : C) (old new : Held S) (result : Result (Unit {0}) Ending) : Type 0 where
   pub desk : Held S
@@ -113,8 +109,7 @@ FailsAtStream {S} {C} g opens closes gives path clock old end =
     ⊎ ((later : C) × (new : Held S) × (reached : Ending) × ServesStream g opens closes gives path clock later old new (Err reached)
     × ClosesWithEnding closes new reached end)
 
--- The result of serving the next stream after the desk `old`. `Ok`: it was served, and `new` is the
--- desk after it. `Err`: `FailsAtStream`.
+-- The result of serving the next stream after `old`: the desk `new`, or an end by `FailsAtStream`.
 abbrev pub ServesNextStream : {S C : Type 0} → Ghosts S → OpenRelation S → CloseRelation S → (C → ℕ → C → Type 0) → List ℕ → C → C → Held S
     → Result (Held S) Ending → Type 0
 ServesNextStream g opens closes gives path clock later old (Ok new) = ServesStream g opens closes gives path clock later old new (Ok tt)
@@ -143,9 +138,8 @@ pub record ServesStreamsAndCloses {S C : Type 0} (g : Ghosts S) (opens : OpenRel
   pub run : RunsSinceOpening g opens path old last
   pub ended : EndsServing g opens closes gives path streams count later last end
 
--- The job served its streams from the desk in the file at the path, with the readings of the
--- program's clock (`ServesStreamsAndCloses`); or its port could not be opened, and the unchanged
--- desk was closed.
+-- The job served its streams from the desk in the file at the path, with the program's clock
+-- (`ServesStreamsAndCloses`); or its port could not be opened, and the unchanged desk was closed.
 abbrev pub ServesStreamsInFile : {S R : Type 0} → Ghosts S → OpenRelation S → CloseRelation S → Bor R → List ℕ → Option ℕ → ℕ → Held S → Ending → Type 0
 ServesStreamsInFile g opens closes machine path at streams old end =
     ClosesWithEnding closes old ending.Net end ⊎ ServesStreamsAndCloses g opens closes ReturnsReading path streams (program_clock machine at) old end
