@@ -82,8 +82,8 @@ def has_desk(path):
 
 
 class Service:
-    """`brk serve` over a file, on a port that was free. It is started again if its streams are used up, or if it was
-    killed; not if it found the file damaged, or if there is no file."""
+    """`brk serve` over a file, on a port that was free. It is started again if its streams are used up, or if it ended
+    with a fault or was killed; not if it found the file damaged, or if there is no file."""
 
     def __init__(self, brk, path):
         self.brk, self.path = brk, path

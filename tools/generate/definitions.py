@@ -10,7 +10,7 @@ PAGE = 'docs/DEFINITIONS.md'
 CONTENTS = '## Contents'
 
 # The specification of the product: its definitions are from the standard or our own, and the page says which.
-MODEL = ['brk_money', 'brk_model', 'brk_model_http']
+MODEL = ['brk_money', 'brk_model', 'brk_model_http', 'brk_model_explain']
 
 # The crates that implement it, whose definitions are all our own.
 CODE = [

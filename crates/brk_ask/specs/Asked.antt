@@ -1,5 +1,4 @@
--- The postcondition of executing a query on a desk and writing its view. The desk's tables are
--- unchanged.
+-- The postcondition of executing a query and writing its view. The desk's tables are unchanged.
 use Rattle.std.specs.Prelude.{◌≡◌, ◌⊎◌, ℕ, Option, Result, Ok, Err, take}
 use Rattle.std.specs.Io.KnownBytes.{Appends}
 use Rattle.sqlite_trees.specs.declared.store.Store.{Ghosts}
@@ -22,36 +21,32 @@ use Rattle.brk_view_rows.specs.declared.view.View.{View}
 abbrev pub FailsWritingNothing : Option Text → Option Text → Result (Unit {0}) ReportFault → ReportFault → Type 0
 FailsWritingNothing before after result fault = (after ≡ before) × (result ≡ Err fault)
 
--- The result of writing the text `text`. `Ok`: exactly `text` was written. `Desk`: memory ran out,
--- and nothing was written. `Write`: a prefix of `text` was written, perhaps empty or all of it. The
--- result is never `Refused`. `Ok` and `Write` state nothing if the writer's content before is
--- unknown.
+-- The result of writing `text`. `Ok`: exactly `text` was written. `Desk`: memory ran out, and
+-- nothing was written. `Write`: a prefix of `text` was written, perhaps empty or all of it. Never
+-- `Refused`. `Ok` and `Write` state nothing if the writer's content before is unknown.
 abbrev pub WritesTextOrFails : Text → Option Text → Option Text → Result (Unit {0}) ReportFault → Type 0
 WritesTextOrFails text before after (Ok u) = Appends before after text
 WritesTextOrFails text before after (Err (Refused refusal)) = ⊥
 WritesTextOrFails text before after (Err (Desk fault)) = (after ≡ before) × (fault ≡ Memory)
 WritesTextOrFails text before after (Err Write) = (k : ℕ) × Appends before after (take k text)
 
--- `result` is the result of writing the answer of the desk to the query `query`, in the format
--- `form`. A view is written as `WritesTextOrFails` specifies; for a refusal or a fault of the desk,
--- `result` is this refusal or this fault, and nothing is written.
+-- The desk's answer to `query` was written in the format `form`: a view as `WritesTextOrFails`
+-- specifies; a refusal or a fault of the desk is `result`, and nothing is written.
 abbrev pub WritesViewOrFails : Form → Query → Result (Result View Refusal) Fault → Option Text → Option Text → Result (Unit {0}) ReportFault → Type 0
 WritesViewOrFails form query (Ok (Ok view)) before after result = WritesTextOrFails (printed_view_text form query (records_of_view view)) before after result
 WritesViewOrFails form query (Ok (Err refusal)) before after result = FailsWritingNothing before after result (Refused refusal)
 WritesViewOrFails form query (Err fault) before after result = FailsWritingNothing before after result (Desk fault)
 
--- The desk executed exactly the parsed query, and its answer, a view, a refusal or a fault, has the
--- output and the result that `WritesViewOrFails` specifies. If the query is malformed, the desk is
--- unchanged, `result` is the refusal of the query, and nothing was written.
+-- The desk executed exactly the parsed query, with output and result by `WritesViewOrFails`. If the
+-- query is malformed, `result` is its refusal, the desk is unchanged, and nothing was written.
 abbrev pub AsksQueryAndWritesView : {S : Type 0} → Ghosts S → Held S → Held S → Form → ReadResult Query → Option Text → Option Text
     → Result (Unit {0}) ReportFault → Type 0
 AsksQueryAndWritesView g old new form (Ok query) before after result =
     (seen : Result (Result View Refusal) Fault) × AskPost g old new query seen × WritesViewOrFails form query seen before after result
 AsksQueryAndWritesView g old new form (Err refusal) before after result = (new ≡ old) × FailsWritingNothing before after result (Refused refusal)
 
--- The postcondition of parsing a query and printing its view: the desk and the output are as
--- `AsksQueryAndWritesView` specifies; or memory ran out before the query was executed, and the desk
--- and the writer's content are unchanged.
+-- The postcondition of parsing a query and printing its view: `AsksQueryAndWritesView`, or memory
+-- ran out before the query was executed, and the desk and the writer's content are unchanged.
 abbrev pub PrintViewPost : {S : Type 0} → Ghosts S → Held S → Held S → Form → ReadResult Query → Option Text → Option Text → Result (Unit {0}) ReportFault
     → Type 0
 PrintViewPost g old new form query before after result =

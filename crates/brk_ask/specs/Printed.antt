@@ -6,8 +6,7 @@ use Rattle.brk_model.specs.Queries.{Query, View, PositionOf, PositionOfTaxId, Su
 use Rattle.brk_money.specs.Spelling.{Text}
 use Rattle.csv.specs.Writing.{default_writer, row_text}
 
--- The names of the fields of the records of a query's view, in order, or an empty list for a query
--- whose records have different fields.
+-- The field names of a query's view, in order; empty if its records have different fields.
 abbrev pub field_names_of_view : Query → List Text
 field_names_of_view (PositionOf customer) = codes "account" ∷ codes "balance" ∷ codes "holdings" ∷ []
 field_names_of_view (PositionOfTaxId tax_id) = codes "account" ∷ codes "balance" ∷ codes "holdings" ∷ []
@@ -22,19 +21,16 @@ abbrev pub names_as_records : List Text → View
 names_as_records [] = []
 names_as_records (name ∷ names) = (name ∷ names) ∷ []
 
--- A list with one record, whose fields are the names of the fields of a query's view, or an empty
--- list if the records of this view have different fields.
+-- The field names of a query's view (`field_names_of_view`) as one record; empty if there are none.
 abbrev pub field_name_records : Query → View
 field_name_records query = names_as_records (field_names_of_view query)
 
--- The bytes of the records as rows of CSV, each as the default writer of the `csv` crate writes it,
--- with its line end.
+-- The records as CSV, each row and its line end as the default writer of the `csv` crate writes it.
 abbrev pub csv_text : View → Text
 csv_text records = flat_map (row_text default_writer) records
 
--- The bytes of the records as one line of JSON: an object whose only member, `view`, is the list of
--- the records, and a line feed. The body of an HTTP reply with a view is this object without the
--- line feed.
+-- The bytes of a JSON object whose only member, `view`, is the list of the records, and a line
+-- feed. The body of an HTTP reply with a view is this object without the line feed.
 abbrev pub json_line_text : View → Text
 json_line_text records = json_records_object (codes "view") records ++ 10 ∷ []
 
@@ -43,9 +39,8 @@ json_line_text records = json_records_object (codes "view") records ++ 10 ∷ []
 abbrev pub records_to_print : Form → Query → View → View
 records_to_print form query records = if form.heads then field_name_records query ++ records else records
 
--- The bytes that are written for a query's view with the records `records`: these records, after
--- one with the names of their fields if `form.heads` asks for it (`records_to_print`), as one line
--- of JSON if `form.json` is true, otherwise as rows of CSV.
+-- The bytes that are written for a query's view with the records `records` (`records_to_print`):
+-- one line of JSON if `form.json` is true, otherwise rows of CSV.
 abbrev pub printed_view_text : Form → Query → View → Text
 printed_view_text form query records =
     if form.json then json_line_text (records_to_print form query records) else csv_text (records_to_print form query records)

@@ -1,3 +1,5 @@
+//! One query: parsed from texts, executed on a desk, and its view formatted and written.
+
 ghost use Rattle.std.specs.Prelude.{◌≡◌, IfOk, Ok};
 ghost use Rattle.brk_ask.specs.Asked.{AsksQueryAndWritesView, PrintViewPost, WritesTextOrFails};
 ghost use Rattle.brk_ask.specs.Printed.{printed_view_text};
@@ -56,7 +58,7 @@ fn write_view<W: Write>(
     }
 }
 
-fn write_view_of<W: Write, S: Alter>(
+fn write_view_of_query<W: Write, S: Alter>(
     alloc: Global,
     desk: &mut Desk<S>,
     query: &Query,
@@ -92,7 +94,7 @@ pub fn write_asked<W: Write, S: Alter>(
         (W.contents writer.old) (W.contents writer.new) result }
 {
     match parse_query(alloc, view, arguments) {
-        Ok(Ok(query)) => write_view_of(alloc, desk, &query, form, writer),
+        Ok(Ok(query)) => write_view_of_query(alloc, desk, &query, form, writer),
         Ok(Err(refusal)) => Err(ReportFault::Refused(refusal)),
         Err(fault) => Err(ReportFault::Desk(fault)),
     }

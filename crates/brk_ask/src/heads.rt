@@ -1,3 +1,5 @@
+//! The record with the names of the fields of a view.
+
 ghost use Rattle.std.specs.Prelude.{◌≡◌, IfOk};
 ghost use Rattle.brk_ask.specs.Printed.{field_names_of_view, field_name_records};
 ghost use Rattle.brk_ref.specs.Fields.{texts_of_fields};

@@ -1,3 +1,5 @@
+//! The records of a view, formatted as CSV rows or as a line of JSON.
+
 ghost use Rattle.std.specs.Prelude.{◌≡◌, IfOk, map, string_bytes};
 ghost use Rattle.brk_ask.specs.Printed.{json_line_text, csv_text};
 ghost use Rattle.brk_view_rows.specs.Views.{texts_of_record};

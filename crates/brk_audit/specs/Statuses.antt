@@ -19,39 +19,34 @@ can_be_first_status Canceled = false
 abbrev pub has_last_change : TradeRow → HistoryRow → Bool
 has_last_change r h = is_same_trade_status r.status h.status && (r.stamp == h.stamp)
 
--- The value `first` if the two statuses are sorted by code and the second followed by the first is
--- a valid status sequence, the value `second` if they are sorted by code and the first followed by
--- the second is one, otherwise false.
+-- `first` if the two statuses are sorted by code and the second, then the first, is a valid status
+-- sequence; `second` if they are sorted and the first, then the second, is one; otherwise false.
 abbrev pub value_by_last_of_two_valid_statuses : Status → Status → Bool → Bool → Bool
 value_by_last_of_two_valid_statuses Completed Submitted first second = first
 value_by_last_of_two_valid_statuses Canceled Pending first second = first
 value_by_last_of_two_valid_statuses Pending Submitted first second = second
 value_by_last_of_two_valid_statuses _ _ first second = false
 
--- True if the history rows `a` and `b` are sorted by status code and form a valid status sequence
--- in strictly ascending order of their stamps, and the row `r` of TRADE has the status and the
--- stamp of the one with the greater stamp.
+-- True if the history rows `a` and `b` are sorted by status code and a valid status sequence by
+-- strictly ascending stamps, and the row `r` of TRADE has the last one's status and stamp.
 abbrev pub is_valid_pair : TradeRow → HistoryRow → HistoryRow → Bool
 is_valid_pair r a b =
     value_by_last_of_two_valid_statuses a.status b.status (nat_lt b.stamp a.stamp && has_last_change r a) (nat_lt a.stamp b.stamp
     && has_last_change r b)
 
--- The value `told` if the three statuses are sorted by code and are, in some order, a valid status
--- sequence; otherwise false.
+-- `told` if the statuses, sorted by code, are in some order a valid sequence; otherwise false.
 abbrev pub value_if_three_statuses_are_valid : Status → Status → Status → Bool → Bool
 value_if_three_statuses_are_valid Completed Pending Submitted told = told
 value_if_three_statuses_are_valid _ _ _ told = false
 
--- True if the history rows `a`, `b` and `c` are sorted by status code and form a valid status
--- sequence in strictly ascending order of their stamps, and the row `r` of TRADE has the status and
--- the stamp of the one with the greatest stamp.
+-- True if the history rows `a`, `b` and `c` are sorted by status code and a valid status sequence
+-- by strictly ascending stamps, and the row `r` of TRADE has the last one's status and stamp.
 abbrev pub is_valid_triple : TradeRow → HistoryRow → HistoryRow → HistoryRow → Bool
 is_valid_triple r a b c =
     value_if_three_statuses_are_valid a.status b.status c.status (nat_lt b.stamp c.stamp && nat_lt c.stamp a.stamp && has_last_change r a)
 
--- True if the history rows are sorted by status code and form a valid status sequence in strictly
--- ascending order of their stamps, and the row `r` of TRADE has the status and the stamp of the one
--- with the greatest stamp. False if there are no rows.
+-- True if the history rows are sorted by status code and a valid status sequence by strictly
+-- ascending stamps, and the row `r` of TRADE has the last status and stamp. False without rows.
 abbrev pub is_valid_history : TradeRow → List HistoryRow → Bool
 is_valid_history r [] = false
 is_valid_history r (h ∷ []) = can_be_first_status h.status && has_last_change r h
@@ -59,9 +54,8 @@ is_valid_history r (a ∷ b ∷ []) = is_valid_pair r a b
 is_valid_history r (a ∷ b ∷ c ∷ []) = is_valid_triple r a b c
 is_valid_history r (a ∷ b ∷ c ∷ d ∷ hs) = false
 
--- True if the list of history rows begins with the rows of the first trade, then has the rows of
--- the second, and so on, and the rows of each trade are a valid history of it (`is_valid_history`).
--- Rows after those of the last trade are not checked. True if there are no trades.
+-- True if the list has the history rows of the first trade, then those of the second, and so on,
+-- each a valid history (`is_valid_history`). Later rows are not checked. True without trades.
 abbrev pub all_histories_are_valid : List TradeRow → List HistoryRow → Bool
 all_histories_are_valid [] hs = true
 all_histories_are_valid (r ∷ rs) hs =
@@ -71,7 +65,6 @@ all_histories_are_valid (r ∷ rs) hs =
 abbrev pub completion_stamps_of_history : List HistoryRow → List ℕ
 completion_stamps_of_history hs = map (λ h. h.stamp) (filter (λ h. is_same_trade_status h.status Completed) hs)
 
--- The stamps of the rows of CASH_MOVE without a trade, which are deposits and withdrawals, in the
--- order of the rows.
+-- The stamps of the rows of CASH_MOVE without a trade (deposits and withdrawals), in order.
 abbrev pub movement_stamps_of_cash_rows : List CashRow → List ℕ
 movement_stamps_of_cash_rows rows = map (λ r. r.stamp) (filter (λ r. is_none r.trade) rows)

@@ -38,7 +38,7 @@ fn is_row_of_trade(cash: &OldCashRow, trade: &TradeRow, tax_status: TaxStatus) -
         && cash.amount.get() == settling_amount(trade, tax_status)
 }
 
-fn settles_in_cash(trade: &TradeRow) -> bool
+fn is_completed_cash_trade(trade: &TradeRow) -> bool
     ensures { result ≡ is_completed_cash_trade (abstract_trade_row trade.now) }
 {
     is_completed(trade.status) && trade.is_cash
@@ -59,7 +59,7 @@ fn strip_row<'a>(
         is_completed_cash_trade
         (map abstract_old_cash_row cash.now) (abstract_trade_row trade.now) (map abstract_old_cash_row others.now)) }
 {
-    if !settles_in_cash(trade) {
+    if !is_completed_cash_trade(trade) {
         return Some(cash);
     }
     let [first, others @ ..] = cash else {
@@ -73,7 +73,7 @@ fn strip_row<'a>(
 }
 
 // One walk over both lists suffices, because both are sorted by trade.
-fn rows_fit_trades(
+fn cash_transactions_match_trades(
     cash: &[OldCashRow],
     trades: &[TradeRow],
     terms: &BTreeMap<u64, AccountTerms>,
@@ -102,6 +102,7 @@ struct CashMoveFigures {
     amount: Cents,
 }
 
+// Returns `None` for a deposit or a withdrawal, which has no trade.
 fn figures_of_row(row: &CashRow) -> Option<CashMoveFigures>
     ensures { option_map abstract_posted_figures result ≡ posted_figures_of_row (abstract_cash_row row.now) }
 {
@@ -126,7 +127,7 @@ fn figures_of_rows(alloc: Global, moves: &[CashRow]) -> Result<Vec<CashMoveFigur
     Ok(all)
 }
 
-fn has_figures(row: CashMoveFigures, trade: &TradeRow, tax_status: TaxStatus) -> bool
+fn is_cash_move_of_trade(row: CashMoveFigures, trade: &TradeRow, tax_status: TaxStatus) -> bool
     ensures { IsTrue result
         ↔ ((row.account ≡ trade.now.account) × (row.trade ≡ trade.now.id) × (row.stamp ≡ trade.now.stamp)
         × (row.amount ≡ settlement_amount_at_tax_status tax_status (abstract_trade_row trade.now))) }
@@ -137,8 +138,8 @@ fn has_figures(row: CashMoveFigures, trade: &TradeRow, tax_status: TaxStatus) ->
         && row.amount.get() == settling_amount(trade, tax_status)
 }
 
-// Does for figures what `strip_row` does for rows.
-fn strip_figures<'a>(
+// Does for rows of CASH_MOVE what `strip_row` does for those of CASH_TRANSACTION.
+fn strip_cash_move<'a>(
     rows: &'a [CashMoveFigures],
     trade: &TradeRow,
     terms: &BTreeMap<u64, AccountTerms>,
@@ -149,20 +150,20 @@ fn strip_figures<'a>(
         (λ others. RowsMatchTradesIffOthersDo (λ p. p) (posted_figures_of_trade (account_tax_status_in_terms terms.now)) is_completed_cash_trade
         (map abstract_posted_figures rows.now) (abstract_trade_row trade.now) (map abstract_posted_figures others.now)) }
 {
-    if !settles_in_cash(trade) {
+    if !is_completed_cash_trade(trade) {
         return Some(rows);
     }
     let [first, others @ ..] = rows else {
         return None;
     };
-    if has_figures(*first, trade, tax_status_of(terms, trade.account)) {
+    if is_cash_move_of_trade(*first, trade, tax_status_of(terms, trade.account)) {
         Some(others)
     } else {
         None
     }
 }
 
-fn figures_fit(
+fn cash_moves_match_trades(
     rows: &[CashMoveFigures],
     trades: &[TradeRow],
     terms: &BTreeMap<u64, AccountTerms>,
@@ -173,7 +174,7 @@ fn figures_fit(
 {
     let mut rest = rows;
     for trade in trades {
-        let Some(others) = strip_figures(rest, trade, terms) else {
+        let Some(others) = strip_cash_move(rest, trade, terms) else {
             return false;
         };
         rest = others;
@@ -208,12 +209,12 @@ pub(crate) fn meets_cash(alloc: Global, schema: Schema, sheets: &Sheets) -> Resu
 {
     let terms = terms_by_id(alloc, &sheets.accounts)?;
     if !schema.has_cash_move_table() {
-        return Ok(rows_fit_trades(&sheets.cash, &sheets.trades, &terms));
+        return Ok(cash_transactions_match_trades(&sheets.cash, &sheets.trades, &terms));
     }
     let mut rows = figures_of_rows(alloc, &sheets.moves)?;
     rows.sort_unstable_by_key(|row| row.trade.get());
     let no_others = sheets.cash.is_empty();
     let in_turn = are_rows_numbered(&sheets.moves);
-    let posted = figures_fit(&rows, &sheets.trades, &terms);
+    let posted = cash_moves_match_trades(&rows, &sheets.trades, &terms);
     Ok(all_three(no_others, in_turn, posted))
 }

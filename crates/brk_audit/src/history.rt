@@ -16,7 +16,7 @@ ghost use Rattle.brk_model.specs.Schemas.{Schema};
 ghost use Rattle.brk_model.specs.Keys.{holding_history_key, is_row_key_less};
 ghost use Rattle.brk_money.specs.declared.fault.Condition.TheVariants.{History};
 
-use crate::positions::{deals_of_trades, run_length, sorted_trades};
+use crate::positions::{deals_of_trades, position_trade_count, sorted_completed_trades};
 use brk_lots::{DealTouch, Position};
 use brk_ref::{LotChange, TradeRow};
 use brk_trade_rows::Sheets;
@@ -24,7 +24,7 @@ use std::alloc::{AllocError, Global};
 use std::cmp::Ordering;
 
 // `run` is all completed trades of one position, in order.
-fn append_run_rows(
+fn append_lot_changes(
     alloc: Global,
     rows: &mut Vec<DealTouch>,
     run: &[&TradeRow],
@@ -35,7 +35,7 @@ fn append_run_rows(
         ≡ map abstract_deal_touch rows.old.items ++ lot_changes_of_deals (map (λ row. deal_of_completed_row (abstract_trade_row row.now)) run.now) []) }
 {
     let deals = deals_of_trades(alloc, run)?;
-    let _ = Position::replay_changes(alloc, &deals, rows)?;
+    let _ = Position::replay_with_changes(alloc, &deals, rows)?;
     Ok(())
 }
 
@@ -53,14 +53,14 @@ fn all_lot_changes(alloc: Global, done: &[&TradeRow]) -> Result<Vec<DealTouch>, 
     let mut begin = 0;
     while begin < done.len() {
         let trade = done[begin];
-        let end = begin + 1 + run_length(trade, &done[begin + 1..]);
-        append_run_rows(alloc, &mut rows, &done[begin..end])?;
+        let end = begin + 1 + position_trade_count(trade, &done[begin + 1..]);
+        append_lot_changes(alloc, &mut rows, &done[begin..end])?;
         begin = end;
     }
     Ok(rows)
 }
 
-fn compare_touches(one: &DealTouch, other: &DealTouch) -> Ordering
+fn compare_touch_keys(one: &DealTouch, other: &DealTouch) -> Ordering
     ensures { is_lt result ≡ is_row_key_less holding_history_key (abstract_deal_touch one.now) (abstract_deal_touch other.now) }
 {
     let lots = one.touch.lot.get().cmp(&other.touch.lot.get());
@@ -72,7 +72,7 @@ fn sort_lot_changes(rows: &mut Vec<DealTouch>)
     ensures permutation { IsPermutation rows.old.items rows.new.items }
     ensures order { IsSortedBy (λ one other. is_row_key_less holding_history_key (abstract_deal_touch one) (abstract_deal_touch other)) rows.new.items }
 {
-    rows.sort_unstable_by(|one, other| compare_touches(one, other));
+    rows.sort_unstable_by(|one, other| compare_touch_keys(one, other));
 }
 
 fn touch_equals(touch: &DealTouch, row: &LotChange) -> bool
@@ -103,7 +103,7 @@ pub(crate) fn meets_history(alloc: Global, sheets: &Sheets) -> Result<bool, Allo
     requires status { HasValidStatuses sheets.now }
     ensures { IfOk result (λ holds. (schema : Schema) → IsTrue holds ↔ ConditionHolds schema History (abstract_sheets sheets.now)) }
 {
-    let done = sorted_trades(alloc, &sheets.trades)?;
+    let done = sorted_completed_trades(alloc, &sheets.trades)?;
     let mut rows = all_lot_changes(alloc, &done)?;
     sort_lot_changes(&mut rows);
     Ok(touches_equal(&rows, &sheets.holding_history))

@@ -13,7 +13,7 @@ ghost use Rattle.brk_model.specs.Audit.{ConditionHolds};
 ghost use Rattle.brk_model.specs.Schemas.{Schema};
 ghost use Rattle.brk_money.specs.declared.fault.Condition.TheVariants.{Lots};
 
-use crate::positions::{position_after, run_length, sorted_trades};
+use crate::positions::{position_after, position_trade_count, sorted_completed_trades};
 use brk_lots::Lot;
 use brk_ref::{HoldingRow, TradeRow};
 use brk_trade_rows::Sheets;
@@ -50,7 +50,7 @@ fn final_lots(alloc: Global, done: &[&TradeRow]) -> Result<Vec<HoldingRow>, Allo
     let mut begin = 0;
     while begin < done.len() {
         let trade = done[begin];
-        let end = begin + 1 + run_length(trade, &done[begin + 1..]);
+        let end = begin + 1 + position_trade_count(trade, &done[begin + 1..]);
         let position = position_after(alloc, &done[begin..end])?;
         append_lots(&mut held, trade, position.lots())?;
         begin = end;
@@ -88,7 +88,7 @@ pub(crate) fn meets_lots(alloc: Global, sheets: &Sheets) -> Result<bool, AllocEr
     requires status { HasValidStatuses sheets.now }
     ensures { IfOk result (λ holds. (schema : Schema) → IsTrue holds ↔ ConditionHolds schema Lots (abstract_sheets sheets.now)) }
 {
-    let done = sorted_trades(alloc, &sheets.trades)?;
+    let done = sorted_completed_trades(alloc, &sheets.trades)?;
     let mut held = final_lots(alloc, &done)?;
     held.sort_unstable_by_key(|row| row.trade.get());
     Ok(holdings_equal(&held, &sheets.holdings))

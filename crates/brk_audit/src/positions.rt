@@ -30,6 +30,7 @@ fn collect_done(alloc: Global, trades: &[TradeRow]) -> Result<Vec<&TradeRow>, Al
     Ok(done)
 }
 
+// By account, then by symbol, then by stamp.
 fn position_order(one: &TradeRow, other: &TradeRow) -> Ordering
     ensures { is_lt result ≡ is_before_by_position (abstract_trade_row one.now) (abstract_trade_row other.now) }
 {
@@ -51,7 +52,7 @@ fn sort_positions(done: &mut Vec<&TradeRow>)
 }
 
 /// Sorts by account, then by symbol, then by stamp.
-pub(crate) fn sorted_trades(
+pub(crate) fn sorted_completed_trades(
     alloc: Global,
     trades: &[TradeRow],
 ) -> Result<Vec<&TradeRow>, AllocError>
@@ -71,7 +72,8 @@ fn positions_equal(one: &TradeRow, other: &TradeRow) -> bool
     one.account == other.account && one.symbol.as_str() == other.symbol.as_str()
 }
 
-pub(crate) fn run_length(trade: &TradeRow, done: &[&TradeRow]) -> usize
+// Returns how many trades at the front of `done` have the account and the security of `trade`.
+pub(crate) fn position_trade_count(trade: &TradeRow, done: &[&TradeRow]) -> usize
     ensures within { result ≤ length done.now }
     ensures same { AllByRecursion (λ other. has_same_position (abstract_trade_row trade.now) (abstract_trade_row other.now) ≡ true) (take result done.now) }
     ensures next { FirstElementSatisfies (λ other. has_same_position (abstract_trade_row trade.now) (abstract_trade_row other.now)

@@ -27,7 +27,7 @@ fn types_equal(kind: TradeType, other: TradeType) -> bool
     kind == other
 }
 
-fn has_same_terms(request: &RequestRow, trade: &TradeRow) -> bool
+fn has_same_symbol_qty_bid(request: &RequestRow, trade: &TradeRow) -> bool
     ensures { IsTrue result ↔ ((request.now.symbol ≡ trade.now.symbol) × (request.now.qty ≡ trade.now.qty) × (request.now.bid ≡ trade.now.bid)) }
 {
     request.symbol.as_str() == trade.symbol.as_str()
@@ -40,7 +40,7 @@ fn request_matches_trade(request: &RequestRow, trade: &TradeRow, broker: u64) ->
 {
     request.trade == trade.id
         && types_equal(request.kind, trade.kind)
-        && has_same_terms(request, trade)
+        && has_same_symbol_qty_bid(request, trade)
         && request.broker.get() == broker
 }
 

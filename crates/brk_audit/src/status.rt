@@ -86,6 +86,7 @@ fn is_valid_trade_history(trade: &TradeRow, rows: &[HistoryRow]) -> bool
     }
 }
 
+// Counts only the rows at the front of `history`, up to the first of another trade.
 fn row_count_of(history: &[HistoryRow], trade: Id) -> usize
     ensures { result ≡ prefix_len (λ h. h.trade == trade) history.now }
 {
@@ -113,7 +114,7 @@ fn all_histories_are_valid(trades: &[TradeRow], history: &[HistoryRow]) -> bool
 }
 
 // Returns false at a completion whose stamp was seen before.
-fn add_completion(seen: &mut BTreeSet<u64>, row: &HistoryRow) -> Result<bool, AllocError>
+fn insert_completion_stamp(seen: &mut BTreeSet<u64>, row: &HistoryRow) -> Result<bool, AllocError>
     ensures new { IfOk result (λ new. new ≡ not (is_same_trade_status row.now.status Completed && contains nat_cmp seen.old row.now.stamp)) }
     ensures seen { OnOk result ((q : ℕ)
         → contains nat_cmp seen.new q ≡ contains nat_cmp seen.old q || (is_same_trade_status row.now.status Completed && (row.now.stamp == q))) }
@@ -126,7 +127,7 @@ fn add_completion(seen: &mut BTreeSet<u64>, row: &HistoryRow) -> Result<bool, Al
 }
 
 // Returns false at a deposit or a withdrawal whose stamp was seen before.
-fn add_movement(seen: &mut BTreeSet<u64>, row: &CashRow) -> Result<bool, AllocError>
+fn insert_movement_stamp(seen: &mut BTreeSet<u64>, row: &CashRow) -> Result<bool, AllocError>
     ensures new { IfOk result (λ new. new ≡ not (is_none row.now.trade && contains nat_cmp seen.old row.now.stamp)) }
     ensures seen { OnOk result ((q : ℕ) → contains nat_cmp seen.new q ≡ contains nat_cmp seen.old q || (is_none row.now.trade && (row.now.stamp == q))) }
 {
@@ -148,12 +149,12 @@ fn stamps_distinct(
 {
     let mut seen = BTreeSet::new(alloc);
     for row in history {
-        if !add_completion(&mut seen, row)? {
+        if !insert_completion_stamp(&mut seen, row)? {
             return Ok(false);
         }
     }
     for movement in moves {
-        if !add_movement(&mut seen, movement)? {
+        if !insert_movement_stamp(&mut seen, movement)? {
             return Ok(false);
         }
     }

@@ -21,9 +21,7 @@ use Rattle.brk_ref.specs.Rows.{abstract_lot_change_row, abstract_settlement_row,
 use Rattle.brk_trade_rows.specs.Sheets.{abstract_sheets}
 use Rattle.brk_trade_rows.specs.declared.sheets.Sheets.{Sheets}
 
--- True if the typed rows `s` of KEPT, BROKER, CUSTOMER, CUSTOMER_ACCOUNT, ACCOUNT_PERMISSION,
--- SECURITY, LAST_TRADE, CHARGE, COMMISSION_RATE, TAXRATE and CUSTOMER_TAXRATE are sorted by key in
--- each table, ascending, and no key occurs twice in a table.
+-- True if KEPT and each reference table of `s` are sorted by key, ascending, without duplicates.
 abbrev pub reference_tables_are_sorted : Sheets → Bool
 reference_tables_are_sorted s =
     is_sorted_by_unique_key (λ r. kept_key (kept_row_with_empty_texts r)) s.kept.items
@@ -38,9 +36,8 @@ reference_tables_are_sorted s =
     && is_sorted_by_unique_key (λ r. tax_rate_key (abstract_tax_rate r)) s.tax_rates.items
     && is_sorted_by_unique_key (λ r. customer_tax_key (abstract_customer_tax r)) s.customer_taxes.items
 
--- True if the typed rows `s` of TRADE, TRADE_HISTORY, TRADE_REQUEST, HOLDING, HOLDING_SUMMARY,
--- HOLDING_HISTORY, SETTLEMENT, CASH_TRANSACTION and CASH_MOVE are sorted by key in each table,
--- ascending, and no key occurs twice in a table.
+-- True if each trading table of `s`, cash included, is sorted by key, ascending, without
+-- duplicates.
 abbrev pub trading_tables_are_sorted : Sheets → Bool
 trading_tables_are_sorted s =
     is_sorted_by_unique_key (λ r. trade_key (abstract_trade_row r)) s.trades.items
@@ -53,11 +50,9 @@ trading_tables_are_sorted s =
     && is_sorted_by_unique_key (λ r. cash_transaction_key (abstract_old_cash_row r)) s.cash.items
     && is_sorted_by_unique_key (λ r. cash_move_key (abstract_cash_row r)) s.moves.items
 
--- True if each of the typed rows `s` of KEPT, BROKER, CUSTOMER, CUSTOMER_ACCOUNT,
--- ACCOUNT_PERMISSION, SECURITY, LAST_TRADE, CHARGE, COMMISSION_RATE, TAXRATE and CUSTOMER_TAXRATE
--- is well-formed and within the limits of the schema, each record that it refers to exists, each
--- row of SECURITY has a row of LAST_TRADE, and the stamp of a row of LAST_TRADE is not after the
--- last stamp, which must exist.
+-- True if each row of KEPT and of the reference tables of `s` is well-formed, within the limits of
+-- the schema, and refers to existing records, each row of SECURITY has a row of LAST_TRADE, and the
+-- stamp of a row of LAST_TRADE is not after the last stamp, which must exist.
 abbrev pub reference_rows_are_well_formed : Schema → Sheets → Bool
 reference_rows_are_well_formed schema s =
     list_all (λ r. is_well_formed_kept_row (kept_row_with_empty_texts r)) s.kept.items
@@ -72,11 +67,10 @@ reference_rows_are_well_formed schema s =
     && list_all (λ r. is_well_formed_tax_rate_row (abstract_tax_rate r)) s.tax_rates.items
     && list_all (λ r. is_well_formed_customer_tax_row (abstract_sheets s) (abstract_customer_tax r)) s.customer_taxes.items
 
--- True if each of the typed rows `s` of TRADE, TRADE_HISTORY, TRADE_REQUEST, HOLDING,
--- HOLDING_SUMMARY, HOLDING_HISTORY and SETTLEMENT is well-formed and within the limits of the
--- schema, each record that it refers to exists, the stamp of a row of TRADE, TRADE_HISTORY or
--- HOLDING is not after the last stamp, which must exist, and a row of TRADE has a price if and only
--- if TRADE_HISTORY has a completion of the trade.
+-- True if each row of TRADE, TRADE_HISTORY, TRADE_REQUEST, SETTLEMENT and the HOLDING tables of `s`
+-- is well-formed, within the limits of the schema, and refers to existing records, no stamp of
+-- TRADE, TRADE_HISTORY or HOLDING is after the last stamp, which must exist, and a row of TRADE has
+-- a price if and only if TRADE_HISTORY has a completion of the trade.
 abbrev pub trading_rows_are_well_formed : Schema → Sheets → Bool
 trading_rows_are_well_formed schema s =
     list_all (λ r. is_well_formed_trade_row schema (abstract_sheets s) (abstract_trade_row r)) s.trades.items
@@ -87,10 +81,9 @@ trading_rows_are_well_formed schema s =
     && list_all (λ r. is_well_formed_holding_history_row (abstract_sheets s) (abstract_lot_change_row r)) s.holding_history.items
     && list_all (λ r. is_well_formed_settlement_row (abstract_sheets s) (abstract_settlement_row r)) s.settlements.items
 
--- True if the typed rows `s` pass those checks of the condition `Form` that do not allocate. The
--- other checks are that tax ids are unique, that customers are within their limits, that the rows
--- of CASH_TRANSACTION and CASH_MOVE are well-formed, and that no two rows of CASH_MOVE have the
--- same trade.
+-- True if `s` passes the checks of the condition `Form` that do not allocate. The others: tax ids
+-- are unique, customers are within their limits, rows of CASH_TRANSACTION and CASH_MOVE are
+-- well-formed, and no two rows of CASH_MOVE have the same trade.
 abbrev pub passes_nonallocating_form_checks : Schema → Sheets → Bool
 passes_nonallocating_form_checks schema s =
     has_tables_sorted_by_unique_key (abstract_sheets s) && reference_rows_are_well_formed schema s && is_last_stamp_in_calendar s.last

@@ -5,7 +5,6 @@ use Rattle.brk_money.specs.Spelling.{Text}
 use Rattle.brk_model.specs.Tables.{Tables}
 use Rattle.brk_model.specs.Joins.{security_row_with_symbol}
 
--- The name in the first row of SECURITY, in the sequence of the table, with the symbol `symbol`, or
--- the empty text if there is no such row.
+-- The name in the first row of SECURITY with the symbol `symbol`, or the empty text if none.
 abbrev pub security_name_or_empty : Tables → Text → Text
 security_name_or_empty t symbol = option_map_or (λ s. s.name) (security_row_with_symbol t symbol) []

@@ -7,7 +7,7 @@ ghost use Rattle.brk_model.specs.Keys.{band_key};
 ghost use Rattle.brk_trade_rows.specs.Schemas.{abstract_schema};
 ghost use Rattle.brk_ref.specs.Records.{abstract_band};
 
-use brk_ref::{Band, overlaps_band};
+use brk_ref::{Band, are_overlapping_bands};
 use brk_trade_rows::Schema;
 
 /// Compares neighbours only: if two bands sorted by key overlap, two neighbours do.
@@ -16,5 +16,5 @@ pub(crate) fn are_disjoint(schema: Schema, bands: &[Band]) -> bool
     requires bounds { IsTrue (list_all (form.is_well_formed_band_row (abstract_schema schema)) (map abstract_band bands.now)) }
     ensures { result ≡ form.has_disjoint_bands (map abstract_band bands.now) }
 {
-    bands.is_sorted_by(|band, next| !overlaps_band(band, next))
+    bands.is_sorted_by(|band, next| !are_overlapping_bands(band, next))
 }

@@ -18,6 +18,7 @@ use brk_ref::{CashRow, OldCashRow, Symbol, TradeRow};
 use brk_trade_rows::Sheets;
 use std::alloc::{AllocError, Global};
 
+// Returns an empty text if the symbol is unknown.
 fn security_name<'a>(sheets: &'a Sheets, symbol: &Symbol) -> &'a str
     requires { HasSortedKeys sheets.now }
     ensures { result.now ≡ security_name_or_empty (abstract_sheets sheets.now) symbol.now }
@@ -28,7 +29,7 @@ fn security_name<'a>(sheets: &'a Sheets, symbol: &Symbol) -> &'a str
     }
 }
 
-fn push_quantity(name: &mut String, qty: Qty, words: &str) -> Result<(), AllocError>
+fn append_cash_text_quantity(name: &mut String, qty: Qty, words: &str) -> Result<(), AllocError>
     ensures { OnOk result (string_bytes name.new ≡ string_bytes name.old ++ (32 ∷ decimal qty ++ words.now)) }
 {
     write!(name, " {}{}", qty.get(), words)
@@ -44,7 +45,7 @@ fn text_of_trade(
     ensures name { IfOk result (λ name. string_bytes name ≡ cash_row_name_from_parts words.now trade.now.kind trade.now.qty security.now) }
 {
     let mut name = String::from_str(alloc, trade.kind.name())?;
-    push_quantity(&mut name, trade.qty, words)?;
+    append_cash_text_quantity(&mut name, trade.qty, words)?;
     name.push_str(security)?;
     Ok(name)
 }
@@ -68,7 +69,12 @@ fn is_trade_text(
     Ok(name == second.as_str())
 }
 
-fn is_text_of_id(alloc: Global, sheets: &Sheets, id: Id, name: &str) -> Result<bool, AllocError>
+fn is_text_of_trade_id(
+    alloc: Global,
+    sheets: &Sheets,
+    id: Id,
+    name: &str,
+) -> Result<bool, AllocError>
     requires { HasSortedKeys sheets.now }
     ensures value { IfOk result (λ holds. holds
         ≡ option_map_or (form.is_cash_row_name_of_trade (abstract_sheets sheets.now) name.now) (trade_row_with_id (abstract_sheets sheets.now) id) false) }
@@ -87,7 +93,7 @@ fn is_valid_old_cash_row(
     requires { HasSortedKeys sheets.now }
     ensures value { IfOk result (λ holds. holds ≡ form.is_well_formed_cash_transaction_row (abstract_sheets sheets.now) (abstract_old_cash_row row.now)) }
 {
-    let is_named = is_text_of_id(alloc, sheets, row.trade, row.name.as_str())?;
+    let is_named = is_text_of_trade_id(alloc, sheets, row.trade, row.name.as_str())?;
     Ok(is_named && is_valid_stamp(sheets, row.stamp) && is_valid_cents(row.amount))
 }
 
@@ -105,7 +111,7 @@ fn has_valid_text(alloc: Global, sheets: &Sheets, row: &CashRow) -> Result<bool,
         (form.is_movement_name_and_amount (string_bytes row.now.name) row.now.amount)) }
 {
     match row.trade {
-        Some(trade) => is_text_of_id(alloc, sheets, trade, row.name.as_str()),
+        Some(trade) => is_text_of_trade_id(alloc, sheets, trade, row.name.as_str()),
         None => Ok(is_movement_text(row.name.as_str(), row.amount)),
     }
 }

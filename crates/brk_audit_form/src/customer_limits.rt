@@ -92,7 +92,7 @@ fn all_keep_limits(
         .all(|customer| keeps_limits(counts, sums, customer))
 }
 
-pub(crate) fn limits_are_kept(alloc: Global, sheets: &Sheets) -> Result<bool, AllocError>
+pub(crate) fn are_within_customer_limits(alloc: Global, sheets: &Sheets) -> Result<bool, AllocError>
     requires { HasSortedKeys sheets.now }
     ensures { IfOk result (λ holds. holds
         ≡ list_all (form.is_within_customer_limits (abstract_sheets sheets.now)) (abstract_sheets sheets.now).customers) }

@@ -10,17 +10,17 @@ ghost use Rattle.brk_audit_form.specs.Groups.{passes_nonallocating_form_checks};
 
 use crate::bands::are_disjoint;
 use crate::cash_forms::{are_valid_cash_rows, are_valid_old_cash_rows};
-use crate::customer_limits::limits_are_kept;
+use crate::cash_trades::have_distinct_trades;
+use crate::customer_limits::are_within_customer_limits;
 use crate::numbers::{are_numbered, is_within_movement_limit};
-use crate::own_rows::trades_differ;
-use crate::tables::{has_sorted_tables, has_valid_references, has_valid_trading};
-use crate::tax_ids::tax_ids_differ;
+use crate::tables::{are_reference_rows_valid, are_trading_rows_valid, has_sorted_tables};
+use crate::tax_ids::have_distinct_tax_ids;
 use brk_money::{Day, Stamp};
 use brk_trade_rows::{Schema, Sheets};
 use std::alloc::{AllocError, Global};
 
 // The calendar ends at 9999-12-31 23:59:59.999 UTC.
-fn is_valid_last(last: Option<Stamp>) -> bool
+fn is_valid_last_stamp(last: Option<Stamp>) -> bool
     ensures { result ≡ is_last_stamp_in_calendar last }
 {
     match last {
@@ -39,7 +39,7 @@ fn is_valid_rule(rule: Option<Day>) -> bool
 }
 
 // Every schema has the other tables, CASH_TRANSACTION among them.
-fn fits_schema(schema: Schema, sheets: &Sheets) -> bool
+fn has_rows_of_schema_only(schema: Schema, sheets: &Sheets) -> bool
     ensures { result ≡ has_rows_only_in_tables_of_schema (abstract_schema schema) (abstract_sheets sheets.now) }
 {
     (schema.has_cash_move_table() || sheets.moves.is_empty())
@@ -47,22 +47,22 @@ fn fits_schema(schema: Schema, sheets: &Sheets) -> bool
 }
 
 // Checks the keys first: the other checks search tables that must be sorted.
-fn passes_plain(schema: Schema, sheets: &Sheets) -> bool
+fn passes_nonallocating_checks(schema: Schema, sheets: &Sheets) -> bool
     ensures { result ≡ passes_nonallocating_form_checks (abstract_schema schema) sheets.now }
 {
     if !has_sorted_tables(sheets) {
         return false;
     }
-    if !has_valid_references(schema, sheets) {
+    if !are_reference_rows_valid(schema, sheets) {
         return false;
     }
-    is_valid_last(sheets.last)
-        && has_valid_trading(schema, sheets)
+    is_valid_last_stamp(sheets.last)
+        && are_trading_rows_valid(schema, sheets)
         && are_disjoint(schema, &sheets.bands)
         && are_numbered(&sheets.trades)
         && is_within_movement_limit(&sheets.moves)
         && is_valid_rule(sheets.rule)
-        && fits_schema(schema, sheets)
+        && has_rows_of_schema_only(schema, sheets)
 }
 
 /// Returns true if the rows satisfy the condition `Form` of `schema`: each table is sorted by key
@@ -75,14 +75,14 @@ fn passes_plain(schema: Schema, sheets: &Sheets) -> bool
 pub fn meets_form(alloc: Global, schema: Schema, sheets: &Sheets) -> Result<bool, AllocError>
     ensures { IfOk result (λ holds. IsTrue holds ↔ ConditionHolds (abstract_schema schema) Form (abstract_sheets sheets.now)) }
 {
-    if !passes_plain(schema, sheets) {
+    if !passes_nonallocating_checks(schema, sheets) {
         return Ok(false);
     }
-    let has_distinct_tax_ids = tax_ids_differ(alloc, &sheets.customers)?;
+    let has_distinct_tax_ids = have_distinct_tax_ids(alloc, &sheets.customers)?;
     if !has_distinct_tax_ids {
         return Ok(false);
     }
-    let has_limits = limits_are_kept(alloc, sheets)?;
+    let has_limits = are_within_customer_limits(alloc, sheets)?;
     if !has_limits {
         return Ok(false);
     }
@@ -94,5 +94,5 @@ pub fn meets_form(alloc: Global, schema: Schema, sheets: &Sheets) -> Result<bool
     if !has_moves {
         return Ok(false);
     }
-    trades_differ(alloc, &sheets.moves)
+    have_distinct_trades(alloc, &sheets.moves)
 }

@@ -4,12 +4,12 @@
 
 mod bands;
 mod cash_forms;
+mod cash_trades;
 mod customer_limits;
 pub mod form;
 mod keys;
 mod limits;
 mod numbers;
-mod own_rows;
 mod reference_forms;
 mod reference_keys;
 mod references;

@@ -1,3 +1,5 @@
+//! The checks that trades are numbered from 1, and that movements are not too many.
+
 ghost use Rattle.std.specs.Prelude.{◌≡◌, filter, is_none, length, map, nat_le};
 ghost use Rattle.std.specs.List.{range_with_len};
 ghost use Rattle.brk_model.specs.Form as form;

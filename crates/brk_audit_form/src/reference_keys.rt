@@ -1,3 +1,5 @@
+//! The sort keys of KEPT and of the tables of reference data.
+
 ghost use Rattle.brk_model.specs.Keys as keys;
 ghost use Rattle.brk_ref.specs.Records as of;
 

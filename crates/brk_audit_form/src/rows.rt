@@ -1,3 +1,5 @@
+//! The checks of the rows of a table, one by one, whatever the table.
+
 ghost use Rattle.std.specs.Prelude.{◌≡◌, Bool};
 ghost use Rattle.std.specs.List.{list_all};
 ghost use Rattle.brk_model.specs.Schemas as schemas;

@@ -1,3 +1,5 @@
+//! The checks of all tables, by group: keys in order, rows well-formed.
+
 ghost use Rattle.std.specs.Prelude.{◌≡◌};
 ghost use Rattle.brk_model.specs.Form as form;
 ghost use Rattle.brk_trade_rows.specs.Schemas.{abstract_schema};
@@ -10,7 +12,7 @@ use crate::keys::keys_ascend;
 use crate::rows::are_valid_rows;
 use brk_trade_rows::{Schema, Sheets};
 
-fn has_sorted_references(sheets: &Sheets) -> bool
+fn are_reference_tables_sorted(sheets: &Sheets) -> bool
     ensures { result ≡ reference_tables_are_sorted sheets.now }
 {
     keys_ascend(&sheets.kept)
@@ -26,7 +28,7 @@ fn has_sorted_references(sheets: &Sheets) -> bool
         && keys_ascend(&sheets.customer_taxes)
 }
 
-fn has_sorted_trading(sheets: &Sheets) -> bool
+fn are_trading_tables_sorted(sheets: &Sheets) -> bool
     ensures { result ≡ trading_tables_are_sorted sheets.now }
 {
     keys_ascend(&sheets.trades)
@@ -43,10 +45,10 @@ fn has_sorted_trading(sheets: &Sheets) -> bool
 pub(crate) fn has_sorted_tables(sheets: &Sheets) -> bool
     ensures { result ≡ form.has_tables_sorted_by_unique_key (abstract_sheets sheets.now) }
 {
-    has_sorted_references(sheets) && has_sorted_trading(sheets)
+    are_reference_tables_sorted(sheets) && are_trading_tables_sorted(sheets)
 }
 
-pub(crate) fn has_valid_references(schema: Schema, sheets: &Sheets) -> bool
+pub(crate) fn are_reference_rows_valid(schema: Schema, sheets: &Sheets) -> bool
     requires { HasSortedKeys sheets.now }
     ensures { result ≡ reference_rows_are_well_formed (abstract_schema schema) sheets.now }
 {
@@ -64,7 +66,7 @@ pub(crate) fn has_valid_references(schema: Schema, sheets: &Sheets) -> bool
 }
 
 /// Leaves out CASH_TRANSACTION and CASH_MOVE, whose checks allocate.
-pub(crate) fn has_valid_trading(schema: Schema, sheets: &Sheets) -> bool
+pub(crate) fn are_trading_rows_valid(schema: Schema, sheets: &Sheets) -> bool
     requires { HasSortedKeys sheets.now }
     ensures { result ≡ trading_rows_are_well_formed (abstract_schema schema) sheets.now }
 {

@@ -1,3 +1,5 @@
+//! The check that no two customers have the same tax id.
+
 ghost use Rattle.std.specs.Prelude.{◌≡◌, IfOk, map};
 ghost use Rattle.brk_model.specs.Form as form;
 ghost use Rattle.brk_ref.specs.Records.{abstract_customer};
@@ -6,7 +8,10 @@ use brk_ref::Customer;
 use std::alloc::{AllocError, Global};
 use std::collections::BTreeSet;
 
-pub(crate) fn tax_ids_differ(alloc: Global, customers: &[Customer]) -> Result<bool, AllocError>
+pub(crate) fn have_distinct_tax_ids(
+    alloc: Global,
+    customers: &[Customer],
+) -> Result<bool, AllocError>
     ensures { IfOk result (λ holds. holds ≡ form.has_distinct_tax_ids (map abstract_customer customers.now)) }
 {
     let mut seen = BTreeSet::new(alloc);

@@ -20,7 +20,7 @@ use brk_ref::{
 };
 use brk_trade_rows::{Schema, Sheets, completion_due_day};
 
-fn price_matches(sheets: &Sheets, row: &TradeRow) -> bool
+fn has_price_matching_completion(sheets: &Sheets, row: &TradeRow) -> bool
     requires { HasSortedKeys sheets.now }
     ensures { result ≡ form.has_price_matching_completion (abstract_sheets sheets.now) (of.abstract_trade_row row.now) }
 {
@@ -37,7 +37,7 @@ fn has_due_day(rule: Option<Day>, status: Status, stamp: Stamp) -> bool
     status != Status::Completed || completion_due_day(rule, stamp).is_some()
 }
 
-fn cash_type_fits(is_cash: bool, word: CashType) -> bool
+fn is_cash_type_of_trade(is_cash: bool, word: CashType) -> bool
     ensures { result ≡ form.is_cash_type_of_trade is_cash (of.cash_type_text word) }
 {
     match word {
@@ -60,7 +60,7 @@ impl Formed for TradeRow {
             && is_valid_stamp(sheets, self.stamp)
             && has_security(sheets, &self.symbol)
             && has_account(sheets, self.account)
-            && price_matches(sheets, self)
+            && has_price_matching_completion(sheets, self)
     }
 }
 
@@ -125,7 +125,7 @@ impl Formed for SettlementRow {
         let Some(trade) = find_trade(sheets, self.trade) else {
             return false;
         };
-        cash_type_fits(trade.is_cash, self.cash_type)
+        is_cash_type_of_trade(trade.is_cash, self.cash_type)
             && self.due_day.get() <= Day::GREATEST
             && is_valid_cents(self.amount)
     }

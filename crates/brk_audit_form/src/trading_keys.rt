@@ -1,3 +1,5 @@
+//! The sort keys of the tables that trades and movements write.
+
 ghost use Rattle.brk_model.specs.Keys as keys;
 ghost use Rattle.brk_ref.specs.Rows as of;
 

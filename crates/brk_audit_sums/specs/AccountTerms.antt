@@ -16,7 +16,6 @@ terms_of_account_row a = record { broker = a.account.broker; tax_status = a.acco
 abbrev pub account_broker_in_terms : BTreeMap ℕ AccountTerms → ℕ → ℕ
 account_broker_in_terms terms account = option_map_or (λ x. x.broker) (get nat_cmp terms account) 0
 
--- The tax status of the account in the map `terms`, or `Untaxed` if the map does not contain the
--- account.
+-- The tax status of the account in the map `terms`, or `Untaxed` if it is not there.
 abbrev pub account_tax_status_in_terms : BTreeMap ℕ AccountTerms → ℕ → TaxStatus
 account_tax_status_in_terms terms account = option_map_or (λ x. x.tax_status) (get nat_cmp terms account) Untaxed

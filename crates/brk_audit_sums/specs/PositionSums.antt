@@ -12,8 +12,7 @@ use Rattle.brk_audit_sums.specs.declared.tally.KeyedAmount.{KeyedAmount}
 abbrev pub posting_with_owned_symbol : KeyedAmount (ℕ × Bor (List ℕ)) → KeyedAmount (ℕ × Text)
 posting_with_owned_symbol p = record { key = (p.key.0, p.key.1.now); amount = p.amount }
 
--- The quantity of the trade, negated for a sale, as a posting at its account and symbol, or `None`
--- if the trade is not completed.
+-- The quantity of a completed trade, negated for a sale, at its account and symbol, or `None`.
 abbrev pub share_posting_of_trade : TradeRow → Option (KeyedAmount (ℕ × Text))
 share_posting_of_trade r =
     if is_completed_trade_row r then Some (record { key = (r.account, r.symbol); amount = signed_by_side (side_of_trade_type r.kind) r.qty }) else None

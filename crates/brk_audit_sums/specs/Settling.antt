@@ -9,14 +9,12 @@ use Rattle.brk_model.specs.Records.{SettleRule}
 use Rattle.brk_model.specs.Tables.{OldCashRow, CashRow, RequestRow, SettlementRow, TradeRow}
 use Rattle.brk_audit_sums.specs.Completed.{is_completed_trade_row}
 
--- The row of TRADE_REQUEST of the pending trade `r`, where `brokers` returns the broker of an
--- account.
+-- The row of TRADE_REQUEST of the pending trade `r`; `brokers` returns the broker of an account.
 abbrev pub request_row_of_trade : (ℕ → ℕ) → TradeRow → RequestRow
 request_row_of_trade brokers r = record { trade = r.id; kind = r.kind; symbol = r.symbol; qty = r.qty; bid = r.bid; broker = brokers r.account }
 
--- The settlement amount of the completed trade `r` at the tax status `status`, in cents: its
--- quantity times its price, negated for a purchase, minus charge, commission and, if the status is
--- `Withheld`, tax. It is below 0 if the account pays. A missing price counts as 0.
+-- The settlement amount of the trade `r`, in cents, below 0 if the account pays: quantity times
+-- price (0 if none), negated for a purchase, minus charge, commission and, if `Withheld`, tax.
 abbrev pub settlement_amount_at_tax_status : TaxStatus → TradeRow → ℤ
 settlement_amount_at_tax_status status r =
     signed_proceeds (side_of_trade_type r.kind) (r.qty * unwrap_or r.price 0) -ℤ pos (r.charge + r.commission
@@ -32,9 +30,8 @@ pub record SettlementFigures : Type 0 where
 abbrev pub settlement_figures_of_row : SettlementRow → SettlementFigures
 settlement_figures_of_row s = record { trade = s.trade; due_day = s.due_day; amount = s.amount }
 
--- The trade, the due day and the amount of the settlement of the completed trade `r`, where `rule`
--- is the first day of one-day settlement, if it is set, and `statuses` returns the tax status of an
--- account.
+-- The trade, the due day and the amount of the settlement of the completed trade `r`. `rule` is the
+-- first day of one-day settlement, if set; `statuses` returns the tax status of an account.
 abbrev pub settlement_figures_of_trade : SettleRule → (ℕ → TaxStatus) → TradeRow → SettlementFigures
 settlement_figures_of_trade rule statuses r =
     record { trade = r.id; due_day = due_day_of_completion_stamp rule r.stamp; amount = settlement_amount_at_tax_status (statuses r.account) r }
@@ -54,16 +51,14 @@ cash_transaction_figures_of_row c = record { trade = c.trade; stamp = c.stamp; a
 abbrev pub cash_transaction_figures_of_trade : (ℕ → TaxStatus) → TradeRow → CashTransactionFigures
 cash_transaction_figures_of_trade statuses r = record { trade = r.id; stamp = r.stamp; amount = settlement_amount_at_tax_status (statuses r.account) r }
 
--- The account, the trade, the stamp and the amount, in cents, of a row of CASH_MOVE that belongs to
--- a trade.
+-- The account, trade, stamp and amount, in cents, of a row of CASH_MOVE that belongs to a trade.
 pub record CashRowFigures : Type 0 where
   pub account : ℕ
   pub trade : ℕ
   pub stamp : ℕ
   pub amount : ℤ
 
--- The account, the trade, the stamp and the amount in the row of CASH_MOVE, or `None` if the row
--- belongs to no trade.
+-- The account, trade, stamp and amount of the row of CASH_MOVE, or `None` if it has no trade.
 abbrev pub posted_figures_of_row : CashRow → Option CashRowFigures
 posted_figures_of_row r = option_map (λ id. record { account = r.account; trade = id; stamp = r.stamp; amount = r.amount }) r.trade
 
@@ -90,8 +85,7 @@ abbrev pub RowsMatchTradesIffOthersDo : {Row Told : Type 0} → (Row → Told) �
 RowsMatchTradesIffOthersDo tells gives test rows trade others =
     (trades : List TradeRow) → (map tells rows ≡ map gives (filter test (trade ∷ trades))) ↔ (map tells others ≡ map gives (filter test trades))
 
--- For any list of later trades, the rows `rows` do not match `trade` and the later trades. Rows
--- match trades if the values of `tells` for the rows equal, in order, the values of `gives` for the
--- trades that pass `test`.
+-- For any list of later trades, `rows` do not match `trade` and the later trades; matching is as in
+-- `RowsMatchTradesIffOthersDo`.
 abbrev pub RowsCannotMatchTrades : {Row Told : Type 0} → (Row → Told) → (TradeRow → Told) → (TradeRow → Bool) → List Row → TradeRow → Type 0
 RowsCannotMatchTrades tells gives test rows trade = (trades : List TradeRow) → map tells rows ≡ map gives (filter test (trade ∷ trades)) → ⊥

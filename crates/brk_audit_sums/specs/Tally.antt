@@ -6,8 +6,7 @@ use Rattle.std.specs.BTreeMap.{BTreeMap, get}
 use Rattle.brk_model.specs.Lists.{total_by}
 use Rattle.brk_audit_sums.specs.declared.tally.KeyedAmount.{KeyedAmount}
 
--- The sum at the key `q` in the map `sums`, or 0 if the map does not contain the key. The keys are
--- compared by the order `cmp`.
+-- The sum at the key `q` in `sums`, whose keys are ordered by `cmp`, or 0 if the key is missing.
 abbrev pub sum_at_key : {K : Type 0} → (K → K → Ordering) → BTreeMap K ℤ → K → ℤ
 sum_at_key cmp sums q = unwrap_or (get cmp sums q) (pos 0)
 

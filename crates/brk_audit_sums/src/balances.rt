@@ -17,7 +17,7 @@ use crate::account_terms::{AccountTerms, tax_status_of, terms_by_id};
 use crate::amounts::settling_amount;
 use crate::completion::is_completed;
 use crate::keyed_sum::{KeyedSum, all_match_sums, trade_postings};
-use crate::tally::{KeyedAmount, sum_by_key, sum_of_key};
+use crate::tally::{KeyedAmount, sum_at, sum_by_key};
 use brk_ref::{AccountRow, CashRow, TradeRow};
 use brk_trade_rows::Sheets;
 use std::alloc::{AllocError, Global};
@@ -35,7 +35,10 @@ fn movement_posting(row: &CashRow) -> Option<KeyedAmount<u64>>
     Some(KeyedAmount { key, amount })
 }
 
-fn append_moves(all: &mut Vec<KeyedAmount<u64>>, moves: &[CashRow]) -> Result<(), AllocError>
+fn append_movement_postings(
+    all: &mut Vec<KeyedAmount<u64>>,
+    moves: &[CashRow],
+) -> Result<(), AllocError>
     ensures all { OnOk result (all.new.items ≡ all.old.items ++ filter_map (λ r. movement_posting_of_row (abstract_cash_row r)) moves.now) }
 {
     for row in moves {
@@ -91,7 +94,7 @@ impl KeyedSum for Balances {
     }
 
     fn matches_sum(sums: &BTreeMap<u64, i128>, row: &AccountRow) -> bool {
-        let moved = sum_of_key(sums, row.account.id.get());
+        let moved = sum_at(sums, row.account.id.get());
         is_balance_after(row.balance.get(), row.account.opening.get(), moved)
     }
 }
@@ -106,7 +109,7 @@ pub fn meets_balance(alloc: Global, sheets: &Sheets) -> Result<bool, AllocError>
 {
     let terms = terms_by_id(alloc, &sheets.accounts)?;
     let mut postings = trade_postings::<Balances>(alloc, &terms, &sheets.trades)?;
-    append_moves(&mut postings, &sheets.moves)?;
+    append_movement_postings(&mut postings, &sheets.moves)?;
     let sums = sum_by_key(alloc, &postings)?;
     Ok(all_match_sums::<Balances>(&sums, &sheets.accounts))
 }

@@ -1,3 +1,5 @@
+//! The posting of a completed trade at the broker of its account.
+
 ghost use Rattle.std.specs.Prelude.{◌≡◌};
 ghost use Rattle.brk_ref.specs.Rows.{abstract_trade_row};
 ghost use Rattle.brk_audit_sums.specs.AccountTerms.{account_broker_in_terms};
@@ -10,7 +12,7 @@ use brk_ref::TradeRow;
 use std::collections::BTreeMap;
 
 /// Returns `None` if the trade is not completed.
-pub(crate) fn at_broker(
+pub(crate) fn posting_at_broker(
     terms: &BTreeMap<u64, AccountTerms>,
     trade: &TradeRow,
     amount: i64,

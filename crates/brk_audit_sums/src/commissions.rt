@@ -12,9 +12,9 @@ ghost use Rattle.brk_audit_sums.specs.Sums.{broker_posting_of_trade_row};
 ghost use Rattle.brk_audit_sums.specs.Tally.{sum_at_key};
 
 use crate::account_terms::{AccountTerms, terms_by_id};
-use crate::broker_posting::at_broker;
+use crate::broker_posting::posting_at_broker;
 use crate::keyed_sum::{KeyedSum, all_match_sums, trade_postings};
-use crate::tally::{KeyedAmount, sum_by_key, sum_of_key};
+use crate::tally::{KeyedAmount, sum_at, sum_by_key};
 use brk_ref::{BrokerRow, TradeRow};
 use brk_trade_rows::Sheets;
 use std::alloc::{AllocError, Global};
@@ -35,11 +35,11 @@ impl KeyedSum for Commissions {
         terms: &BTreeMap<u64, AccountTerms>,
         trade: &TradeRow,
     ) -> Option<KeyedAmount<u64>> {
-        at_broker(terms, trade, trade.commission.get() as i64)
+        posting_at_broker(terms, trade, trade.commission.get() as i64)
     }
 
     fn matches_sum(sums: &BTreeMap<u64, i128>, row: &BrokerRow) -> bool {
-        i128::from(row.commissions) == sum_of_key(sums, row.broker.id.get())
+        i128::from(row.commissions) == sum_at(sums, row.broker.id.get())
     }
 }
 

@@ -15,7 +15,7 @@ ghost use Rattle.brk_audit_sums.specs.PositionSums.{posting_with_owned_symbol, s
 ghost use Rattle.brk_audit_sums.specs.Tally.{sum_at_key};
 
 use crate::completion::is_completed;
-use crate::tally::{KeyedAmount, sum_by_key, sum_of_key};
+use crate::tally::{KeyedAmount, sum_at, sum_by_key};
 use brk_money::Side;
 use brk_ref::{SummaryRow, TradeRow};
 use brk_trade_rows::Sheets;
@@ -87,7 +87,7 @@ fn sums_agree<K: Ord + Copy>(
     ensures { IsTrue result ↔ AllByRecursion (λ p. sum_at_key K.cmp sums.now p.key ≡ sum_at_key K.cmp told.now p.key) postings.now }
 {
     for posting in postings {
-        if sum_of_key(sums, posting.key) != sum_of_key(told, posting.key) {
+        if sum_at(sums, posting.key) != sum_at(told, posting.key) {
             return false;
         }
     }
@@ -111,6 +111,7 @@ fn has_no_zero(rows: &[SummaryRow]) -> bool
     true
 }
 
+/// Returns `one && other && last`; its clause names the three apart.
 pub fn all_three(one: bool, other: bool, last: bool) -> bool
     ensures { IsTrue result ↔ (IsTrue one × IsTrue other × IsTrue last) }
 {

@@ -52,7 +52,7 @@ pub fn sum_by_key<K: Ord + Copy>(
     Ok(tally)
 }
 
-pub fn sum_of_key<K: Ord + Copy>(tally: &BTreeMap<K, i128>, key: K) -> i128
+pub fn sum_at<K: Ord + Copy>(tally: &BTreeMap<K, i128>, key: K) -> i128
     ensures { result ≡ sum_at_key K.cmp tally.now key }
 {
     tally.get(&key).copied().unwrap_or(0)

@@ -1,6 +1,5 @@
--- Valid histories: statuses and movements of a base in ascending order of their stamps, valid
--- status sequences, settlement texts only of completed trades, and cash texts only of completed
--- cash trades. Also the base with its reference records and stored replies sorted by key.
+-- Valid histories: ascending stamps of statuses and movements, valid status sequences, settlement
+-- texts only of completed, cash texts only of completed cash trades. Also the base sorted by key.
 use Rattle.std.specs.Prelude.{◌≡◌, ◌&&◌, true, false, List, [], ◌∷◌, map}
 use Rattle.std.specs.List.{AllByRecursion}
 use Rattle.brk_model.specs.Records.{Account, Broker, Security, Trade}
@@ -23,10 +22,9 @@ pub record HasSettlementAndCashTextsOnlyIfCompleted (t : Trade) : Type 0 where
   pub settled : is_completed t ≡ false → t.cash_type ≡ []
   pub moved : is_completed t && t.is_cash ≡ false → t.cash_name ≡ []
 
--- For each trade of the base, the statuses of its status changes form a valid status sequence and
--- their stamps are strictly ascending. A trade has a settlement text only if it is completed, and a
--- cash text only if it is a completed cash trade. The stamps of the movements are strictly
--- ascending.
+-- For each trade of the base, the statuses form a valid sequence with strictly ascending stamps; it
+-- has a settlement text only if it is completed, and a cash text only if it is a completed cash
+-- trade. The stamps of the movements are strictly ascending.
 pub record HasValidHistories (base : Base) : Type 0 where
   pub stamps : AllByRecursion HasAscendingStatusStamps base.trades
   pub ways : AllByRecursion HasValidStatusSequence base.trades
@@ -45,8 +43,7 @@ account_id_key a = number a.id ∷ []
 abbrev pub security_symbol_key : Security → List KeyPart
 security_symbol_key s = word s.symbol ∷ []
 
--- The base with its reference records and stored replies sorted by key, ascending. Its trades, its
--- movements, its last stamp and its first day of one-day settlement are unchanged.
+-- The base with its reference records and stored replies sorted by key, ascending.
 abbrev pub base_sorted_by_keys : Base → Base
 base_sorted_by_keys b = record b {
   brokers = rows_sorted_by_key broker_id_key b.brokers;

@@ -15,27 +15,22 @@ use Rattle.brk_model.specs.Form.{is_quantity_in_schema, is_well_formed_key, are_
 use Rattle.brk_model.specs.Form.{has_well_formed_permission_texts}
 use Rattle.brk_audit_theorems.specs.Sound.{is_well_formed_account, is_well_formed_broker}
 
--- True if the symbol, name, exchange and sector of the listing are well-formed and its price is
--- from 1 cent to the greatest price, both included.
+-- True if the texts of the listing are well-formed and its price is within its limits (`is_price`).
 abbrev pub is_well_formed_listing : Listing → Bool
 is_well_formed_listing l = are_well_formed_listing_texts l.symbol l.name l.exchange l.sector && is_price l.price
 
--- True if the tier and the exchange of the band are well-formed, both bounds, in shares, are from 1
--- to the greatest quantity of the third schema, both included, and the rate, in hundredths of a
--- percent, is at most the greatest commission rate. Whether the lower bound is at most the upper
--- bound is not checked.
+-- True if tier and exchange of the band are well-formed, its bounds are quantities in the third
+-- schema, and its rate is at most `greatest_commission_rate`; the order of bounds is not checked.
 abbrev pub is_well_formed_band : Band → Bool
 is_well_formed_band b = has_well_formed_tier_exchange_and_bounds third_schema b && nat_le b.rate greatest_commission_rate
 
--- The order's quantity, in shares, is from 1 to the greatest quantity of the third schema, and its
--- price, if it has one, is from 1 cent to the greatest price, all bounds included. Its other fields
--- are not checked.
+-- The order's quantity is within the limits of the third schema, and its price, if it has one, is
+-- within its limits (`is_price`). Its other fields are not checked.
 pub record OrderMeetsAuditFormats (o : Order) : Type 0 where
   pub qty : is_quantity_in_schema third_schema o.qty ≡ true
   pub price : IfSome (price_of_order_type o.order_type) (λ p. is_price p ≡ true)
 
--- The price of the tick is from 1 cent to the greatest price, both included. Its symbol and its
--- quantity are not checked.
+-- The price of the tick is within its limits (`is_price`); its symbol and quantity are not checked.
 abbrev pub TickMeetsAuditFormats : Tick → Type 0
 TickMeetsAuditFormats tick = is_price tick.price ≡ true
 
@@ -43,10 +38,9 @@ TickMeetsAuditFormats tick = is_price tick.price ≡ true
 abbrev pub is_movement_amount_within_limits : ℕ → Bool
 is_movement_amount_within_limits n = is_in_range 1 greatest_amount n
 
--- The fields of the command whose formats and limits an audit checks are well-formed. Whether ids
--- and symbols exist, whether the lower bound of a band is at most its upper bound, and how many ids
--- or ticks the command has, is not checked. Vacuous for a customer's tax, a cancel, a text update
--- and a feed without ticks.
+-- The fields of the command whose formats and limits an audit checks are well-formed. Not checked
+-- are whether ids and symbols exist, the order of a band's bounds, and the number of ids or ticks.
+-- Vacuous for a customer's tax, a cancel, a text update and a feed without ticks.
 abbrev pub MeetsAuditFormats : Command → Type 0
 MeetsAuditFormats (AddBroker b) = is_well_formed_broker b ≡ true
 MeetsAuditFormats (AddCustomer c) = is_well_formed_customer_row c ≡ true
@@ -68,7 +62,6 @@ MeetsAuditFormats (DepositCash account amount) = is_movement_amount_within_limit
 MeetsAuditFormats (WithdrawCash account amount) = is_movement_amount_within_limits amount ≡ true
 MeetsAuditFormats (SetOneDay day) = nat_le day greatest_day ≡ true
 
--- The batch name of the key is well-formed, and its row number is from 1 to the greatest id, both
--- included.
+-- The batch name of the key is well-formed, and its row number is from 1 to the greatest id.
 abbrev pub IsWellFormedKey : Key → Type 0
 IsWellFormedKey key = is_well_formed_key key ≡ true

@@ -34,18 +34,15 @@ customer_tax_id_key c = word c.tax_id ∷ []
 abbrev pub is_well_formed_broker : Broker → Bool
 is_well_formed_broker b = are_well_formed_id_and_name b.id b.name
 
--- True if the id and the name of the account are well-formed and the absolute value of its opening
--- balance, in cents, is at most the greatest amount.
+-- True if id, name and opening balance of the account pass `are_well_formed_account_fields`.
 abbrev pub is_well_formed_account : Account → Bool
 is_well_formed_account a = are_well_formed_account_fields a.id a.name a.opening
 
--- True if the symbol, name, exchange and sector of the security are well-formed and its last price
--- is from 1 cent to the greatest price, both included.
+-- True if the texts of the security are well-formed and its last price is within its limits.
 abbrev pub is_well_formed_security : Security → Bool
 is_well_formed_security s = are_well_formed_listing_texts s.symbol s.name s.exchange s.sector && is_price s.last_price
 
--- True if the trade's id, quantity, bid, charge, commission and tax are within their limits
--- (`are_trade_numbers_in_range`); the third schema sets the limit of the quantity.
+-- True if the trade's numbers pass `are_trade_numbers_in_range` of the third schema.
 abbrev pub has_trade_numbers_in_range : Trade → Bool
 has_trade_numbers_in_range t = are_trade_numbers_in_range third_schema t.id t.qty t.bid t.charge t.commission t.tax
 
@@ -55,13 +52,11 @@ has_trade_numbers_in_range t = are_trade_numbers_in_range third_schema t.id t.qt
 abbrev pub StatusStampIsAtMostLastStamp : Option ℕ → StatusChange → Type 0
 StatusStampIsAtMostLastStamp last m = is_up_to_last_stamp last m.stamp ≡ true
 
--- If the status change is a completion, its due day is at most the greatest day, 9999-12-31, where
--- `rule` is the first day of one-day settlement, if it is set. Vacuous for other statuses.
+-- A completion has a due day by `rule` of at most 9999-12-31. Vacuous for other statuses.
 abbrev pub HasDueDayInCalendar : SettleRule → StatusChange → Type 0
 HasDueDayInCalendar rule m = settles_in_calendar_if_completed rule m.status m.stamp ≡ true
 
--- True if the trade is completed and has a price from 1 cent to the greatest price, both included,
--- or is not completed and has no price.
+-- True if the trade has a price within its limits, if it is completed, and otherwise no price.
 abbrev pub has_price_exactly_if_completed : Trade → Bool
 has_price_exactly_if_completed t = has_price_exactly_if (is_completed t) t.price
 
@@ -72,35 +67,30 @@ has_cash_text_with_security_name t name =
     bytes_eq t.cash_name (cash_row_name_from_parts (codes " shares of ") t.kind t.qty name)
     || bytes_eq t.cash_name (cash_row_name_from_parts (codes " Shares of ") t.kind t.qty name)
 
--- True if the trade's cash text is one of the two cash texts (`has_cash_text_with_security_name`)
--- with the name of the trade's security in `securities`, or with the empty text as name if this
--- security is not one of them.
+-- True if the trade's cash text is one of the two (`has_cash_text_with_security_name`) with the
+-- name of its security in `securities`, or with the empty text if this security is not one of them.
 abbrev pub has_cash_text_of_security : List Security → Trade → Bool
 has_cash_text_of_security securities t = has_cash_text_with_security_name t (security_name_in_list securities t.symbol)
 
--- The trade satisfies those conditions of the audit invariant that depend on the trade alone: its
--- numbers are within their limits, its statuses are a valid status sequence with strictly ascending
--- stamps, it has a price if and only if it is completed, this price is within its limits, it has a
--- settlement text only if it is completed and a cash text only if it is a completed cash trade, and
--- if it is completed, its settlement text is one of the two texts for its kind (cash or margin).
+-- The trade satisfies the conditions of the audit invariant that depend on it alone: numbers within
+-- their limits, a valid status sequence with strictly ascending stamps, a price, within its limits,
+-- exactly if it is completed, a settlement text only if completed, then one of the two texts for
+-- its kind (cash or margin), and a cash text only if it is a completed cash trade.
 pub record TradeOnlyAuditInvariant (t : Trade) : Type 0 where
   pub fields : has_trade_numbers_in_range t ≡ true
   -- Its statuses are a valid status sequence, with stamps in strictly ascending order.
   pub stamps : HasAscendingStatusStamps t
   pub way : HasValidStatusSequence t
-  -- It has a price, within its limits, if and only if it is completed, a settlement or cash text
-  -- only if it may have one (`HasSettlementAndCashTextsOnlyIfCompleted`), and one of the two
-  -- settlement texts if it is completed.
+  -- It has a price, within its limits, exactly if it is completed, a settlement or cash text only
+  -- if it may have one, and one of the two settlement texts if it is completed.
   pub priced : has_price_exactly_if_completed t ≡ true
   pub words : HasSettlementAndCashTextsOnlyIfCompleted t
   pub cash_type : is_completed t ≡ true → is_cash_type_of_trade t.is_cash t.cash_type ≡ true
 
--- The trade satisfies the conditions of the audit invariant on a trade: the conditions that depend
--- on the trade alone, and no stamp after the last stamp `last`, which must exist. If the trade is
--- completed, its due day by `rule`, the first day of one-day settlement, if it is set, is at most
--- 9999-12-31, and the absolute value of its settlement amount, in cents, is at most the greatest
--- amount. If it is also a cash trade, its cash text is one of the two cash texts with the name of
--- its security in `securities`, or with the empty text as name if the security is not one of them.
+-- The trade satisfies the conditions of the audit invariant on a trade: those that depend on it
+-- alone, and no stamp after the last stamp `last`, which must exist. If it is completed, its due
+-- day by `rule` is at most 9999-12-31, and its settlement amount is within its limit; a completed
+-- cash trade has one of the two cash texts for its security in `securities`.
 pub record TradeAuditInvariant (last : Option ℕ) (rule : SettleRule) (accounts : List Account) (securities : List Security) (t : Trade) : Type 0 where
   pub alone : TradeOnlyAuditInvariant t
   pub open alone use *
@@ -113,28 +103,23 @@ pub record TradeAuditInvariant (last : Option ℕ) (rule : SettleRule) (accounts
   -- The absolute value of its settlement amount, if it is completed, is within the limit.
   pub amount : is_completed t ≡ true → is_within_amount_limit (settlement_amount accounts t) ≡ true
 
--- The trade satisfies the conditions of the audit invariant on a trade (`TradeAuditInvariant`),
--- with the last stamp, the first day of one-day settlement, the accounts and the securities of the
--- base.
+-- The trade satisfies `TradeAuditInvariant` with the last stamp, the first day of one-day
+-- settlement, the accounts and the securities of the base.
 abbrev pub BaseTradeAuditInvariant : Base → Trade → Type 0
 BaseTradeAuditInvariant base t = TradeAuditInvariant base.last base.rule base.accounts base.securities t
 
 -- ---- movements, and one-day settlement
 
--- True if the text of the movement is `Deposit` and its amount is above 0, or the text is
--- `Withdrawal` and the amount is below 0, and the absolute value of the amount, in cents, is at
--- most the greatest amount.
+-- True for the text `Deposit` and an amount above 0, or `Withdrawal` and one below 0, if its
+-- absolute value, in cents, is at most the greatest amount.
 abbrev pub is_well_formed_movement : Movement → Bool
 is_well_formed_movement m = is_movement_name_and_amount m.name m.amount && is_within_amount_limit m.amount
 
--- The part of the audit invariant that concerns the movements and the first day of one-day
--- settlement `rule`: the texts and amounts of the movements are well-formed, their stamps are
--- strictly ascending, their number is at most the greatest id, and `rule`, if it is set, is at most
--- the greatest day, 9999-12-31.
+-- The part of the audit invariant on the movements, whose texts and amounts are well-formed, and on
+-- `rule`, the first day of one-day settlement.
 pub record MovementAuditInvariant (movements : List Movement) (rule : SettleRule) : Type 0 where
   pub fields : AllByRecursion (λ m. is_well_formed_movement m ≡ true) movements
-  -- The movements are in strictly ascending order of their stamps, and their number is within the
-  -- limit of ids.
+  -- The stamps of the movements are strictly ascending, and their number is at most `greatest_id`.
   pub risen : is_strictly_ascending (map (λ m. m.stamp) movements) ≡ true
   pub few : length movements ≤ greatest_id
   -- The first day of one-day settlement, if it is set, is at most 9999-12-31.
@@ -156,16 +141,14 @@ TaxRateIsListed tax_rates x = is_some (tax_rate_with_id_in_list tax_rates x.tax)
 
 -- ---- the parts of the invariant: well-formed fields, and unique keys
 
--- The part of the audit invariant that concerns stored replies: their keys are well-formed, and no
--- two have the same key.
+-- The part of the audit invariant on stored replies: well-formed keys, of which no two are equal.
 pub record StoredReplyAuditInvariant (all_kept : List Kept) : Type 0 where
   pub kept : AllByRecursion (λ k. is_well_formed_kept_row k ≡ true) all_kept
   pub kept_keys : HasDistinctKeys kept_key all_kept
 
--- The part of the audit invariant that concerns brokers, customers, accounts and permissions: their
--- fields are well-formed, ids of brokers and ids and tax ids of customers are unique, the account
--- of each permission exists, and at most 10 accounts have the same customer id, whether or not that
--- customer exists.
+-- The part of the audit invariant on brokers, customers, accounts and permissions: well-formed
+-- fields, unique ids of brokers and ids and tax ids of customers, existing accounts of permissions,
+-- and at most 10 accounts with the same customer id, whether or not that customer exists.
 pub record PartyAuditInvariant (all_brokers : List Broker) (all_customers : List Customer) (all_accounts : List Account)
     (all_permissions : List Permission) : Type 0 where
   pub brokers : AllByRecursion (λ b. is_well_formed_broker b ≡ true) all_brokers
@@ -180,11 +163,10 @@ pub record PartyAuditInvariant (all_brokers : List Broker) (all_customers : List
   -- At most `most_accounts_per_customer` accounts have the same customer id.
   pub owned : (customer : ℕ) → length (filter (λ a. a.customer == customer) all_accounts) ≤ most_accounts_per_customer
 
--- The part of the audit invariant that concerns charges, bands, tax rates and customers' taxes: the
--- fields of charges, bands (by the limits of the third schema) and tax rates are well-formed, the
--- lower bound of each band is at most its upper bound, the keys of charges, tax rates and
--- customers' taxes are unique, the customer and the tax rate of each customer's tax exist, and the
--- rates of each customer sum to at most the greatest tax rate.
+-- The part of the audit invariant on charges, bands, tax rates and customers' taxes: well-formed
+-- fields (of bands by the third schema, with ordered bounds), unique keys (except of bands),
+-- existing customers and tax rates of customers' taxes, and rates of each customer that sum to at
+-- most the greatest tax rate.
 pub record RateAuditInvariant (all_customers : List Customer) (all_charges : List Charge) (all_bands : List Band) (all_tax_rates : List TaxRate)
     (all_taxes : List CustomerTax) : Type 0 where
   pub charges : AllByRecursion (λ c. is_well_formed_charge_row c ≡ true) all_charges
@@ -199,34 +181,31 @@ pub record RateAuditInvariant (all_customers : List Customer) (all_charges : Lis
   -- The rates of a customer sum to at most the greatest tax rate.
   pub rates : (customer : ℕ) → tax_rate_sum_in_lists all_tax_rates all_taxes customer ≤ greatest_tax_rate
 
--- The part of the audit invariant that concerns securities: their fields are well-formed, and the
--- stamp of the last tick of each, or of its listing before the first tick, is at most the last
--- stamp `last`, which must exist if there is a security.
+-- The part of the audit invariant on securities: fields are well-formed, and the stamp of the last
+-- tick, or of the listing, is at most `last`, which must exist if there is a security.
 pub record SecurityAuditInvariant (last : Option ℕ) (all_securities : List Security) : Type 0 where
   pub securities : AllByRecursion (λ s. is_well_formed_security s ≡ true) all_securities
   pub moments : AllByRecursion (λ s. is_up_to_last_stamp last s.moment ≡ true) all_securities
 
--- The part of the audit invariant that concerns sums over the completed trades `done` and the
--- movements: the absolute value of each holding summary, in shares, is at most the greatest
--- summary, and the absolute value of each account's balance and the commission total of each
--- broker, in cents, are at most the greatest amount. The limits hold for every account, symbol and
--- broker, existing or not.
+-- The part of the audit invariant on sums over the completed trades `done` and the movements: each
+-- holding summary, in shares, is at most the greatest summary in absolute value, and each balance,
+-- in absolute value, and commission total, in cents, at most the greatest amount, for every
+-- account, symbol and broker, existing or not.
 pub record SumAuditInvariant (accounts : List Account) (done : List Trade) (movements : List Movement) : Type 0 where
   pub summaries : (account : ℕ) → (symbol : Text) → nat_abs (holding_summary_quantity done account symbol) ≤ greatest_summary_quantity
   pub balances : (account : ℕ) → nat_abs (balance_of_account accounts (postings accounts done movements) account) ≤ greatest_amount
   pub commissions : (broker : ℕ) → commission_total_of_broker accounts done broker ≤ greatest_amount
 
 -- The base satisfies the audit invariant. The fields of its records are well-formed. The keys of
--- stored replies, brokers, customers, charges, tax rates and customers' taxes are unique, and no
--- two customers have the same tax id. The records that permissions and customers' taxes refer to
--- exist. The stamps of securities and status changes are at most the last stamp, which exists if
--- there is a security or a trade, and the stamps of movements are strictly ascending. Each trade
--- has a valid status sequence with strictly ascending stamps, and the price and the texts that its
--- status and its kind (cash or margin) require. Due days and the first day of one-day settlement,
--- if it is set, are at most 9999-12-31. The accounts and the tax rates of customers, the number and
--- the amounts of movements, and the summaries, balances, commission totals and settlement amounts
--- are within their limits. Each part depends only on the fields of the base that it names, and the
--- part on trades also on those that `BaseTradeAuditInvariant` names.
+-- stored replies, brokers, customers, charges, tax rates and customers' taxes, and the tax ids of
+-- customers are unique. The records that permissions and customers' taxes refer to exist. Stamps of
+-- securities and status changes are at most the last stamp, which exists if there is a security or
+-- a trade; stamps of movements are strictly ascending. Each trade has a valid status sequence with
+-- strictly ascending stamps, and the price and texts that its status and its kind (cash or margin)
+-- require. Due days and the first day of one-day settlement, if set, are at most 9999-12-31.
+-- Accounts and tax rates of customers, number and amounts of movements, summaries, balances,
+-- commission totals and settlement amounts are within their limits. Each part depends only on the
+-- fields that it names, the part on trades also on those of `BaseTradeAuditInvariant`.
 pub record AuditInvariant (base : Base) : Type 0 where
   pub keyed : StoredReplyAuditInvariant base.kept
   pub open keyed use *

@@ -6,5 +6,5 @@
 #![tactic(auto)]
 
 pub mod adoption;
-pub mod sound;
+pub mod audit_invariant;
 pub mod upgrade;

@@ -1,3 +1,5 @@
+//! The texts at the end of the help of each subcommand.
+
 /// The text after the options in the help of `brk batch`.
 pub const BATCH: &str = "Example:
   brk batch --db desk.db < examples/setting.csv";

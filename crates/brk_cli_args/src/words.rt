@@ -1,5 +1,6 @@
 //! The arguments of `brk`: their definitions, and the job that they request. No clause says which
-//! job is read; brk_tests_interfaces tests it.
+//! job is read; brk_tests_interfaces tests it. The functions `.._job` read the arguments by the names
+//! that `.._command` and `.._arg` give them. `tools/generate/help_pages` reads this file.
 
 use crate::job::Job;
 use crate::notes;
@@ -14,14 +15,14 @@ use std::alloc::{AllocError, Global};
 const VERSION: &str = "0.2.0 (schema 3, kit 13f)";
 
 // A desk is created if the file is missing or empty or has no table of a desk.
-fn optional_file<'a>(alloc: Global) -> Arg<'a> {
+fn optional_file_arg<'a>(alloc: Global) -> Arg<'a> {
     Arg::new(alloc, "db").long("db").value_name("FILE").help(
         "The file of the desk, created if it is missing or empty (check the path); without it the desk is in memory",
     )
 }
 
 // The parser does not check that the file exists.
-fn required_file<'a>(alloc: Global) -> Arg<'a> {
+fn required_file_arg<'a>(alloc: Global) -> Arg<'a> {
     Arg::new(alloc, "db")
         .long("db")
         .value_name("FILE")
@@ -52,7 +53,7 @@ fn batch_command<'a>(alloc: Global) -> Result<Command<'a>, AllocError> {
     Command::new(alloc, "batch")
         .about("Reads a batch from standard input and writes a line for each row")
         .after_help(notes::BATCH)
-        .arg(optional_file(alloc))?
+        .arg(optional_file_arg(alloc))?
         .arg(timestamp_arg(alloc))
 }
 
@@ -69,7 +70,7 @@ fn statement_command<'a>(alloc: Global) -> Result<Command<'a>, AllocError> {
     Command::new(alloc, "statement")
         .about("Prints the statement of an account: its cash, day by day, and its lots")
         .after_help(notes::STATEMENT)
-        .arg(required_file(alloc))?
+        .arg(required_file_arg(alloc))?
         .arg(account_arg(alloc))?
         .arg(day_arg(alloc, "from", "The first day, as 2024-03-01"))?
         .arg(day_arg(alloc, "to", "The last day"))
@@ -79,7 +80,7 @@ fn audit_command<'a>(alloc: Global) -> Result<Command<'a>, AllocError> {
     Command::new(alloc, "audit")
         .about("Recomputes every derived table of a desk, and prints ok if all are right")
         .after_help(notes::AUDIT)
-        .arg(required_file(alloc))
+        .arg(required_file_arg(alloc))
 }
 
 fn flag_arg<'a>(alloc: Global, name: &'static str, help: &'static str) -> Arg<'a> {
@@ -107,7 +108,7 @@ fn ask_command<'a>(alloc: Global) -> Result<Command<'a>, AllocError> {
     Command::new(alloc, "ask")
         .about("Prints a view of a desk: a CSV row for each record")
         .after_help(notes::ASK)
-        .arg(required_file(alloc))?
+        .arg(required_file_arg(alloc))?
         .arg(flag_arg(alloc, "json", "Prints the view as JSON, as over HTTP"))?
         .arg(flag_arg(
             alloc,
@@ -128,7 +129,7 @@ fn explain_command<'a>(alloc: Global) -> Result<Command<'a>, AllocError> {
     Command::new(alloc, "explain")
         .about("Prints how the amounts of a trade, an account, a holding or a broker come about")
         .after_help(notes::EXPLAIN)
-        .arg(required_file(alloc))?
+        .arg(required_file_arg(alloc))?
         .arg(words)
 }
 
@@ -155,7 +156,7 @@ fn serve_command<'a>(alloc: Global) -> Result<Command<'a>, AllocError> {
         .about("Serves the desk over HTTP, one stream after the other")
         .after_help(notes::SERVE)
         .arg(port_arg(alloc))?
-        .arg(optional_file(alloc))?
+        .arg(optional_file_arg(alloc))?
         .arg(timestamp_arg(alloc))?
         .arg(streams_arg(alloc))
 }
@@ -169,7 +170,8 @@ fn add_subcommand<'a>(
     command?.subcommand(added?)
 }
 
-// Without arguments, parsing fails with the help of `brk` as the error text.
+// `brk` without its subcommands. Without arguments, parsing fails with the help of `brk` as the
+// error text.
 fn program_command<'a>(alloc: Global) -> Result<Command<'a>, AllocError> {
     Command::new(alloc, "brk")
         .version(VERSION)
@@ -179,6 +181,7 @@ fn program_command<'a>(alloc: Global) -> Result<Command<'a>, AllocError> {
         .bin_name("brk")
 }
 
+// `brk` with its six subcommands.
 fn whole_command<'a>(alloc: Global) -> Result<Command<'a>, AllocError> {
     let command = add_subcommand(program_command(alloc), batch_command(alloc));
     let command = add_subcommand(command, statement_command(alloc));

@@ -15,8 +15,7 @@ use Rattle.brk_io.specs.declared.usage_fault.UsageFault.{UsageFault}
 use Rattle.brk_io.specs.declared.usage_fault.UsageFault.TheVariants as usage
 use Rattle.brk_cli_exit.specs.Lines.{error_line_of_fault}
 
--- The exit status of a fault: 1 for `Damaged`, whichever condition fails, and 3 for `Memory` and
--- `Store`.
+-- The exit status of a fault: 1 for `Damaged`, 3 for `Memory` and `Store`.
 abbrev pub exit_status_of_fault : Fault → ℕ
 exit_status_of_fault (fault.Damaged condition) = 1
 exit_status_of_fault fault.Memory = 3
@@ -32,18 +31,16 @@ exit_status_of_batch_fault kind.Read = 3
 exit_status_of_batch_fault kind.Write = 3
 exit_status_of_batch_fault (kind.Desk fault) = exit_status_of_fault fault
 
--- The exit status of a report that is refused or ended early: 1 for a refusal, 3 if writing failed,
--- otherwise the exit status of the desk's fault.
+-- The exit status of a failed report: 1 if refused, 3 if writing failed, otherwise the fault's.
 abbrev pub exit_status_of_report_fault : ReportFault → ℕ
 exit_status_of_report_fault (report.Refused refusal) = 1
 exit_status_of_report_fault (report.Desk fault) = exit_status_of_fault fault
 exit_status_of_report_fault report.Write = 3
 
--- The exit status of an ending: 0 if the job is done or help or the version was requested, 2 if the
--- arguments are wrong, 3 if a stream ended early, the port could not be opened, a stream could not
--- be accepted, the output could not be written, also to a closed pipe, or memory ran out while the
--- arguments were read or parsed, and otherwise the exit status of the fault of `Open`, `Batch` or
--- `Statement`.
+-- The exit status of an ending: 0 if the job is done or help or the version was requested; 2 for
+-- wrong arguments; 3 if a stream ended early, the port could not be opened or a stream accepted,
+-- the output could not be written, also to a closed pipe, or memory ran out while the arguments
+-- were read or parsed; otherwise by the fault of `Open`, `Batch` or `Statement`.
 abbrev pub exit_status : Ending → ℕ
 exit_status ending.Done = 0
 exit_status (ending.Open fault) = exit_status_of_fault fault
@@ -58,16 +55,14 @@ exit_status (ending.Usage (usage.Words text)) = 2
 exit_status (ending.Usage usage.Day) = 2
 exit_status (ending.Usage usage.Memory) = 3
 
--- The ending of the program after the database was closed with the result `closed`: `Open` with the
--- fault of the close if the job was done and the close failed, otherwise the ending before the
--- close.
+-- The ending after the database was closed with the result `closed`: `Open` with the fault of the
+-- close if the job was done and the close failed, otherwise the ending before.
 abbrev pub ending_after_close : Ending → Result (Unit {0}) Fault → Ending
 ending_after_close ending.Done (Err fault) = ending.Open fault
 ending_after_close ending closed = ending
 
--- The bytes of the error line of a batch that ended early, with its line feed: `brk: batch: ` and
--- the cause for a missing or wrong header or end record, `brk: fault: ` and `read` or `write` if
--- reading or writing failed, and otherwise the error line of the desk's fault.
+-- The error line, with its line feed, of a batch that ended early: `brk: batch: ` and what is wrong
+-- with its header or end, `brk: fault: ` and `read` or `write`, or the desk's fault line.
 abbrev pub error_line_of_batch : FaultKind → List ℕ
 error_line_of_batch kind.BadHeader = codes "brk: batch: bad header\n"
 error_line_of_batch kind.NoEnd = codes "brk: batch: no end\n"
@@ -76,24 +71,21 @@ error_line_of_batch kind.Read = codes "brk: fault: read\n"
 error_line_of_batch kind.Write = codes "brk: fault: write\n"
 error_line_of_batch (kind.Desk fault) = error_line_of_fault fault
 
--- The bytes of the error line of a stream that ended early, with its line feed: `brk: fault: `, and
--- `read`, `write` or `memory` by the kind of the fault.
+-- The error line of a stream's fault: `brk: fault: `, and `read`, `write` or `memory`, with its LF.
 abbrev pub error_line_of_stream : StreamFault → List ℕ
 error_line_of_stream stream.Read = codes "brk: fault: read\n"
 error_line_of_stream stream.Write = codes "brk: fault: write\n"
 error_line_of_stream stream.Memory = codes "brk: fault: memory\n"
 
--- The bytes of the error line of a report that is refused or ended early, with its line feed:
--- `brk: refused: ` and the number of the refusal, the error line of the fault of the desk, or
--- `brk: fault: write`.
+-- The error line of a report that is refused or ended early, with its line feed: `brk: refused: `
+-- and the refusal's number, the line of the desk's fault, or `brk: fault: write`.
 abbrev pub error_line_of_report : ReportFault → List ℕ
 error_line_of_report (report.Refused refusal) = codes "brk: refused: " ++ (decimal (refusal_number refusal) ++ (10 ∷ []))
 error_line_of_report (report.Desk fault) = error_line_of_fault fault
 error_line_of_report report.Write = codes "brk: fault: write\n"
 
--- The bytes that are sent to standard error if the arguments request no job: the error text of
--- wrong arguments, which may be empty, the error line of a malformed day or of memory that ran out,
--- with its line feed, or no byte for help and for the version.
+-- The bytes for standard error if the arguments request no job: the text of wrong arguments,
+-- perhaps empty, the line of a malformed day or of memory that ran out, or none (help, version).
 abbrev pub error_line_of_usage : UsageFault → List ℕ
 error_line_of_usage (usage.Words text) = string_bytes text
 error_line_of_usage (usage.Help text) = []

@@ -5,8 +5,7 @@ use Rattle.brk_money.specs.Kinds.{condition_word}
 use Rattle.brk_money.specs.declared.fault.Fault.{Fault}
 use Rattle.brk_money.specs.declared.fault.Fault.TheVariants as fault
 
--- The bytes of the error line whose two parts are `line.0` and `line.1`: the first part, the second
--- part, and a line feed.
+-- The bytes of the error line with the parts `line.0` and `line.1`, and a line feed.
 abbrev pub bytes_of_error_line : Bor (List ℕ) × Bor (List ℕ) → List ℕ
 bytes_of_error_line line = line.0.now ++ (line.1.now ++ (10 ∷ []))
 

@@ -7,9 +7,8 @@ use Rattle.std.specs.Io.KnownBytes.{Appends}
 abbrev pub ReceivesPrefix : Option (List ℕ) → Option (List ℕ) → List ℕ → Type 0
 ReceivesPrefix old new text = (prefix : List ℕ) × (left : List ℕ) × Appends old new prefix × (text ≡ prefix ++ left)
 
--- The sink received a prefix of `text`, perhaps empty or all of it, between the states `old` and
--- `new`, and its last step, to the state `new`, was a failure. The condition on what it received is
--- vacuous if its content before is unknown.
+-- Between the states `old` and `new` the sink received a prefix of `text`, perhaps empty or all of
+-- it (vacuous if its content before is unknown), and its last step was a failure.
 abbrev pub SinkFailsWithinText : {S : Type 0} → (S → Option (List ℕ)) → (S → S → Type 0) → S → S → List ℕ → Type 0
 SinkFailsWithinText {S} contents fails old new text = (last : S) × fails last new × ReceivesPrefix (contents old) (contents new) text
 

@@ -1,3 +1,5 @@
+//! The endings of the program, with their exit statuses and error lines.
+
 ghost use Rattle.std.specs.Prelude.{◌≡◌, OnErr, OnOk};
 ghost use Rattle.std.specs.Io.KnownBytes.{Appends};
 ghost use Rattle.brk_cli_exit.specs.Ending as spec;
@@ -117,7 +119,7 @@ pub fn ending_after_close(ending: Ending, closed: Result<(), Fault>) -> Ending
     }
 }
 
-fn send_report<S: Sink>(fault: &ReportFault, errors: &mut S) -> Result<(), NotWritten>
+fn send_report_error<S: Sink>(fault: &ReportFault, errors: &mut S) -> Result<(), NotWritten>
     ensures ok { OnOk result (Appends (S.contents errors.old) (S.contents errors.new) (spec.error_line_of_report fault.now)) }
     ensures err { OnErr result (SinkFailsWithinText S.contents S.fails errors.old errors.new (spec.error_line_of_report fault.now)) }
 {
@@ -131,7 +133,7 @@ fn send_report<S: Sink>(fault: &ReportFault, errors: &mut S) -> Result<(), NotWr
     }
 }
 
-fn send_usage<S: Sink>(fault: &UsageFault, errors: &mut S) -> Result<(), NotWritten>
+fn send_usage_error<S: Sink>(fault: &UsageFault, errors: &mut S) -> Result<(), NotWritten>
     ensures ok { OnOk result (Appends (S.contents errors.old) (S.contents errors.new) (spec.error_line_of_usage fault.now)) }
     ensures err { OnErr result (SinkFailsWithinText S.contents S.fails errors.old errors.new (spec.error_line_of_usage fault.now)) }
 {
@@ -153,12 +155,12 @@ pub fn send_error_line<S: Sink>(ending: &Ending, errors: &mut S) -> Result<(), N
         Ending::Done => Ok(()),
         Ending::Open(fault) => send_line(errors, fault_line(*fault)),
         Ending::Batch(fault) => send_line(errors, batch_error(fault.kind)),
-        Ending::Statement(fault) => send_report(fault, errors),
+        Ending::Statement(fault) => send_report_error(fault, errors),
         Ending::Serve(fault) => send_line(errors, stream_error(fault.kind)),
         Ending::Net => send_line(errors, ("brk: fault: ", "net")),
         Ending::Output => send_line(errors, ("brk: fault: ", "write")),
         Ending::ClosedPipe => Ok(()),
-        Ending::Usage(fault) => send_usage(fault, errors),
+        Ending::Usage(fault) => send_usage_error(fault, errors),
     }
 }
 

@@ -1,3 +1,5 @@
+//! The error line of a fault, and the sending of any error line.
+
 ghost use Rattle.std.specs.Prelude.{◌≡◌, OnErr, OnOk};
 ghost use Rattle.std.specs.Io.KnownBytes.{Appends};
 ghost use Rattle.brk_cli_exit.specs.Lines as spec;

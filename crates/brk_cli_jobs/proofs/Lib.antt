@@ -1,4 +1,5 @@
 pub mod Adopted
+pub mod Asked
 pub mod Batched
 pub mod Computed
 pub mod Explained
@@ -6,4 +7,5 @@ pub mod Frames
 pub mod Outcomes
 pub mod Placed
 pub mod Printed
+pub mod Sequence
 pub mod Served

@@ -34,8 +34,9 @@ use Rattle.brk_money.specs.declared.fault.Fault.{Fault}
 use Rattle.brk_cli_jobs.proofs.Computed.{appended, completes}
 use Rattle.brk_cli_jobs.specs.BatchText.{CompletesBatchInFile, CompletesBatchOfJob, PrintsBatchAt, PrintsBatchOfJob, PrintsWholeBatch, result_of_batch_at}
 use Rattle.brk_cli_jobs.specs.Endings.{ending_of_batch}
+use Rattle.brk_cli_jobs.specs.Files.{CloseRelation, OpenRelation}
 use Rattle.brk_cli_jobs.specs.Jobs.{ExecutesBatch, InputAndOutput, clock_and_output}
-use Rattle.brk_cli_jobs.specs.Places.{CloseRelation, ExecutesJobInFile, ExecutesJobInMemory, ExecutesJobOnNewStore, ExecutesJobOnOpened, FailsToOpen, OpenRelation, RunsJob}
+use Rattle.brk_cli_jobs.specs.Places.{ExecutesJobInFile, ExecutesJobInMemory, ExecutesJobOnNewStore, ExecutesJobOnOpened, FailsToOpen, RunsJob}
 use Rattle.sqlite_trees.specs.declared.store.Store.{Ghosts}
 
 -- all readings of a fixed clock are its timestamp
@@ -108,9 +109,9 @@ module _ {R : Type 0} (machine : Bor R) (t : ℕ) (input : Text) (io : InputAndO
   in_memory end known (inr ran) = inr (on_new_store end known ran)
 
 -- a batch on a file that was done
-module _ {S R : Type 0} (g : Ghosts S) (creates : OpenRelation S) (closes : CloseRelation S) (machine : Bor R) (t : ℕ) (input : Text) where
+module _ {S R : Type 0} (g : Ghosts S) (creates opens : OpenRelation S) (closes : CloseRelation S) (machine : Bor R) (t : ℕ) (input : Text) where
   in_file : (path : String Global) (io : InputAndOutput) (reached : Ending) (result : Result (Held S) Fault) → io.input ≡ Some input
-      → creates (string_bytes path) result → ExecutesJobOnOpened g closes machine (job.Batch (Some path) (Some t)) result io reached → reached ≡ ending.Done
+      → creates (string_bytes path) result → ExecutesJobOnOpened g opens closes machine (job.Batch (Some path) (Some t)) (string_bytes path) result io reached → reached ≡ ending.Done
       → CompletesBatchInFile g creates closes (string_bytes path) t input io
   in_file path io reached (Err fault) known opened failed done = let e = sym failed.0 ∙ done in absurd (cc)
   in_file path io reached (Ok store) known opened ran done =
@@ -152,17 +153,17 @@ module _ {S R : Type 0} (g : Ghosts S) (creates opens : OpenRelation S) (closes 
   prints (job.Serve port db at streams) input io end known ran = tt
 
   file_run : (path : String Global) (t : ℕ) (io : InputAndOutput) (reached : Ending) (mid : Option Text) → io.after ≡ mid
-      → ExecutesJobInFile g creates closes machine (job.Batch (Some path) (Some t)) (string_bytes path) (record { input = io.input; before = io.before; after = mid }) reached
-      → ExecutesJobInFile g creates closes machine (job.Batch (Some path) (Some t)) (string_bytes path) io reached
+      → ExecutesJobInFile g creates opens closes machine (job.Batch (Some path) (Some t)) (string_bytes path) (record { input = io.input; before = io.before; after = mid }) reached
+      → ExecutesJobInFile g creates opens closes machine (job.Batch (Some path) (Some t)) (string_bytes path) io reached
   file_run path t io reached mid same ran =
-      subst (λ (m : Option Text). ExecutesJobInFile g creates closes machine (job.Batch (Some path) (Some t)) (string_bytes path) (record { input = io.input; before = io.before; after = m }) reached)
+      subst (λ (m : Option Text). ExecutesJobInFile g creates opens closes machine (job.Batch (Some path) (Some t)) (string_bytes path) (record { input = io.input; before = io.before; after = m }) reached)
       (sym same) ran
 
   pub done_in_file : (j : Job) (input : Option Text) (io : InputAndOutput) (end : Ending) → io.input ≡ input → RunsJob g creates opens closes machine j io end
       → CompletesBatchOfJob g creates closes j input io end
   done_in_file (job.Batch (Some path) (Some t)) (Some input) io end known ran =
       let it = file_run path t io ran.reached ran.mid ran.printed.1 ran.executed in
-      λ done. in_file g creates closes machine t input path io ran.reached it.result known it.opened it.executed (sym ran.printed.0 ∙ done)
+      λ done. in_file g creates opens closes machine t input path io ran.reached it.result known it.opened it.executed (sym ran.printed.0 ∙ done)
   done_in_file (job.Batch (Some path) (Some t)) None io end known ran = tt
   done_in_file (job.Batch (Some path) None) input io end known ran = tt
   done_in_file (job.Batch None at) input io end known ran = tt

@@ -24,17 +24,16 @@ use Rattle.brk_model.specs.Parse.{parse_by_first_field, row_parsers}
 use Rattle.brk_money.specs.Spelling.{Text}
 use Rattle.brk_money.specs.declared.fault.Fault.{Fault}
 use Rattle.brk_cli_jobs.specs.Endings.{ending_of_batch}
+use Rattle.brk_cli_jobs.specs.Files.{CloseRelation, OpenRelation}
 use Rattle.brk_cli_jobs.specs.Jobs.{InputAndOutput, clock_and_output}
-use Rattle.brk_cli_jobs.specs.Places.{CloseRelation, FailsToOpen, OpenRelation}
+use Rattle.brk_cli_jobs.specs.Places.{FailsToOpen}
 use Rattle.brk_store_transactions.specs.Audited.{Represents}
 
--- The result of the batch with the bytes `input` from `base`, if every clock reading is `t`: what it
--- prints (`text`), how it ends, and the base after it.
+-- The result of the batch `input` from `base` if every clock reading is `t`: text, ending and base.
 abbrev pub result_of_batch_at : Base → ℕ → Text → BatchResult Base
 result_of_batch_at base t input = result_of_batch_input base (replicate (length (records default_config (input_text input))) t) input
 
--- The batch of the bytes `input` completes from `base` at the time `t`, and exactly its text was
--- written.
+-- The batch `input` completes from `base` at the time `t`, and exactly its text was written.
 abbrev pub PrintsWholeBatch : Base → ℕ → Text → Option Text → Option Text → Type 0
 PrintsWholeBatch base t input before after =
     ((result_of_batch_at base t input).ending ≡ CorrectEnd) × Appends before after (result_of_batch_at base t input).text
@@ -52,17 +51,15 @@ pub record PrintsBatchAt {R : Type 0} (machine : Bor R) (t : ℕ) (input : Text)
   pub printed : IsBatchResult (parse_by_first_field row_parsers) step_of_row ReturnsReading (Some (input_text input))
       (environment_change_with_bases empty_base base (clock_and_output machine (Some t) later io)) result
 
--- If the job is a batch without a file and with a fixed time, and the bytes of its input are known:
--- the batch was executed (`PrintsBatchAt`), or its desk could not be created and nothing was
--- written. Vacuous otherwise.
+-- For a batch without a file, with a fixed time and an input of known bytes: the batch was executed
+-- (`PrintsBatchAt`), or its desk could not be created and nothing was written. Vacuous otherwise.
 abbrev pub PrintsBatchOfJob : {R : Type 0} → Bor R → Job → Option Text → InputAndOutput → Ending → Type 0
 PrintsBatchOfJob machine (job.Batch None (Some t)) (Some input) io end = ((fault : Fault) × FailsToOpen fault io end) ⊎ PrintsBatchAt machine t input io end
 PrintsBatchOfJob machine job input io end = Unit {0}
 
--- A batch of the bytes `input` was executed at the time `t` on the desk in the file at `path`, which
--- was opened, and closed without a fault. Under the disk assumption, for every base that the desk
--- represented when it was opened, exactly the text of the batch from this base was written, and the
--- desk represents the base after the batch when it is closed.
+-- The batch `input` was executed at the time `t` on the desk in the file at `path`, which was
+-- opened, and closed without a fault. Under the disk assumption, for every base that the opened
+-- desk represented, exactly the batch's text was written, and the desk represents the base after.
 pub record CompletesBatchInFile {S : Type 0} (g : Ghosts S) (creates : OpenRelation S) (closes : CloseRelation S) (path : List ℕ) (t : ℕ) (input : Text)
     (io : InputAndOutput) : Type 0 where
   -- The store when it was opened and when it was closed.

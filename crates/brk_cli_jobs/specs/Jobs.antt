@@ -1,7 +1,6 @@
 -- What a job does on an open desk, and its ending. `g` is the specification of the storage `S`,
--- `machine` the machine whose clock is read, and `old` and `new` are the desk's store before and
--- after the job. A condition that bytes were written (`Appends`) is vacuous if the writer's content
--- before is unknown.
+-- `machine` has the clock, `old` and `new` are the desk's store before and after. A condition that
+-- bytes were written (`Appends`) is vacuous if the content before is unknown.
 use Rattle.std.specs.Prelude.{◌≡◌, ◌⊎◌, Bool, ℕ, List, Option, Result, Ok, Err, codes, map, option_map, string_bytes, take}
 use Rattle.std.specs.Borrow.{Bor}
 use Rattle.std.specs.Io.KnownBytes.{Appends}
@@ -48,8 +47,7 @@ use Rattle.brk_ask.specs.declared.form.Form.{Form}
 use Rattle.brk_store_transactions.specs.Audited.{Represents}
 use Rattle.brk_cli_jobs.specs.Endings.{ending_of_batch, ending_of_report, ending_of_serving, ending_of_statement, result_of_serving}
 
--- The bytes that a job may read (`input`), and the content of its writer before and after the job.
--- Each is `None` if no contract specifies it.
+-- The bytes that a job may read, and its writer's content before and after; `None` if unspecified.
 pub record InputAndOutput : Type 0 where
   pub input : Option Text
   pub before : Option Text
@@ -59,9 +57,8 @@ pub record InputAndOutput : Type 0 where
 abbrev pub clock_and_output : {R : Type 0} → Bor R → Option ℕ → ProgramClock R → InputAndOutput → ClockAndWriterChange (ProgramClock R)
 clock_and_output machine at later io = record { clock = program_clock machine at; later = later; old = io.before; new = io.after }
 
--- The job executed the batch of its input once, with the clock readings of the program's clock: it
--- has the result, the calls, the lines and the crash safety of `run_batch`, and nothing else
--- changed the desk or was written.
+-- The job executed the batch of its input once, with the program's clock, with the result, calls,
+-- lines and crash safety of `run_batch`; nothing else changed the desk or was written.
 pub record ExecutesBatch {S R : Type 0} (g : Ghosts S) (machine : Bor R) (at : Option ℕ) (old new : Held S) (io : InputAndOutput) (end : Ending) : Type 0 where
   pub result : Result Counts BatchFault
   -- The clock after the batch.
@@ -75,8 +72,7 @@ pub record ExecutesBatch {S R : Type 0} (g : Ghosts S) (machine : Bor R) (at : O
   pub crash_safe : IsBatchCrashSafe (λ desk. HasCleanDisk (state g desk)) (λ desk. Represents g desk) (CrashExposesOnlyOneOf g)
       (parse_by_first_field row_parsers) step_of_row ReturnsReading (option_map input_text io.input) old new (clock_and_output machine at later io) result
 
--- The job wrote the statement of `account` from the day `from` to the day `to`, or failed
--- (`StatementPost`).
+-- The job wrote the account's statement of the days `from` to `to`, or failed (`StatementPost`).
 abbrev pub WritesStatementOfAccount : {S : Type 0} → Ghosts S → ℕ → ℕ → ℕ → Held S → Held S → InputAndOutput → Ending → Type 0
 WritesStatementOfAccount g account from to old new io end =
     (result : Result (Unit {0}) ReportFault) × (end ≡ ending_of_statement result) × StatementPost g old new account from to io.before io.after result

@@ -7,4 +7,5 @@ pub mod Opened
 pub mod Opening
 pub mod Places
 pub mod Requested
+pub mod Serving
 pub mod Words

@@ -17,7 +17,9 @@ use Rattle.brk_money.specs.declared.fault.Fault.{Fault}
 use Rattle.brk_money.specs.declared.fault.Fault.TheVariants.{Memory}
 use Rattle.brk_money.specs.declared.refusal.Refusal.{Refusal}
 use Rattle.brk_store_transactions.specs.Holds.{CreatePost}
+use Rattle.brk_cli_jobs.specs.Files.{CloseRelation, OpenRelation}
 use Rattle.brk_cli_jobs.specs.Jobs.{ExecutesJob, InputAndOutput, WritesAuditOk}
+use Rattle.brk_cli_jobs.specs.Serving.{ServesStreamsInFile}
 use Rattle.brk_cli_jobs.specs.Words.{HasWords, result_of_words}
 
 -- The desk could not be opened or created: the job was not executed, and nothing was written.
@@ -33,18 +35,9 @@ pub record ExecutesJobOnNewStore {R : Type 0} (machine : Bor R) (job : Job) (io 
   pub created : CreatePost over_memory conn old (Ok tt)
   pub executed : ExecutesJob over_memory machine job old new io end
 
--- The job was executed on a new desk in memory (`ExecutesJobOnNewStore`), or the desk could not be
--- created.
+-- The job was executed on a new desk in memory, or the desk could not be created.
 abbrev pub ExecutesJobInMemory : {R : Type 0} → Bor R → Job → InputAndOutput → Ending → Type 0
 ExecutesJobInMemory machine job io end = ((fault : Fault) × FailsToOpen fault io end) ⊎ ExecutesJobOnNewStore machine job io end
-
--- The type of the relation of a close of a store.
-abbrev pub CloseRelation : Type 0 → Type 1
-CloseRelation S = Held S → Result (Unit {0}) Fault → Type 0
-
--- The type of the relation of an open at a path.
-abbrev pub OpenRelation : Type 0 → Type 1
-OpenRelation S = List ℕ → Result (Held S) Fault → Type 0
 
 -- The job was executed on the store `old` of an open file, which was then closed.
 pub record ExecutesJobAndCloses {S R : Type 0} (g : Ghosts S) (closes : CloseRelation S) (machine : Bor R) (job : Job) (old : Held S) (io : InputAndOutput)
@@ -58,25 +51,33 @@ pub record ExecutesJobAndCloses {S R : Type 0} (g : Ghosts S) (closes : CloseRel
   -- The ending is the ending of the job, or `Open` with the fault of the close if the job was done.
   pub ended : end ≡ ending_after_close reached closed
 
--- A file was opened with the result `opened`. `Ok`: the job was executed on its store, which was
--- then closed. `Err`: no job was executed.
-abbrev pub ExecutesJobOnOpened : {S R : Type 0} → Ghosts S → CloseRelation S → Bor R → Job → Result (Held S) Fault → InputAndOutput → Ending → Type 0
-ExecutesJobOnOpened g closes machine job (Ok store) io end = ExecutesJobAndCloses g closes machine job store io end
-ExecutesJobOnOpened g closes machine job (Err fault) io end = FailsToOpen fault io end
+-- The job was executed on the store `old` of the open file at the path. A job that serves may open
+-- the file again between two streams, by the relation `reopens` (`ServesStreamsInFile`); any other
+-- job was executed on this store, which was then closed.
+abbrev pub ExecutesJobOnStore : {S R : Type 0} → Ghosts S → OpenRelation S → CloseRelation S → Bor R → Job → List ℕ → Held S → InputAndOutput → Ending → Type 0
+ExecutesJobOnStore g reopens closes machine (job.Serve port db at streams) path old io end =
+    ServesStreamsInFile g reopens closes machine path at streams old end × (io.after ≡ io.before)
+ExecutesJobOnStore g reopens closes machine job path old io end = ExecutesJobAndCloses g closes machine job old io end
 
--- The file at the path was opened, and the job was executed on its store.
-pub record ExecutesJobInFile {S R : Type 0} (g : Ghosts S) (opens : OpenRelation S) (closes : CloseRelation S) (machine : Bor R) (job : Job) (path : List ℕ)
+-- The file at the path was opened with the result `opened`. `Ok`: the job was executed on its store
+-- (`ExecutesJobOnStore`). `Err`: no job was executed.
+abbrev pub ExecutesJobOnOpened : {S R : Type 0} → Ghosts S → OpenRelation S → CloseRelation S → Bor R → Job → List ℕ → Result (Held S) Fault → InputAndOutput
+    → Ending → Type 0
+ExecutesJobOnOpened g reopens closes machine job path (Ok store) io end = ExecutesJobOnStore g reopens closes machine job path store io end
+ExecutesJobOnOpened g reopens closes machine job path (Err fault) io end = FailsToOpen fault io end
+
+-- The file at the path was opened, by the relation `opens`, and the job was executed on its store.
+pub record ExecutesJobInFile {S R : Type 0} (g : Ghosts S) (opens reopens : OpenRelation S) (closes : CloseRelation S) (machine : Bor R) (job : Job) (path : List ℕ)
     (io : InputAndOutput) (end : Ending) : Type 0 where
   pub result : Result (Held S) Fault
   pub opened : opens path result
-  pub executed : ExecutesJobOnOpened g closes machine job result io end
+  pub executed : ExecutesJobOnOpened g reopens closes machine job path result io end
 
--- The words of the job have the result `words`. `Ok`: the file at the path was opened, and the job
--- was executed on its store. `Err`: the ending is the refusal, no job was executed, and nothing was
--- written.
+-- `words` is the result of parsing the job's words. `Ok`: the file at the path was opened, and the
+-- job was executed on its store. `Err`: the ending is the refusal; nothing was executed or written.
 abbrev pub OpensUnlessRefused : {S R : Type 0} → Result (Unit {0}) Refusal → Ghosts S → OpenRelation S → CloseRelation S → Bor R → Job → List ℕ → InputAndOutput
     → Ending → Type 0
-OpensUnlessRefused (Ok u) g opens closes machine job path io end = ExecutesJobInFile g opens closes machine job path io end
+OpensUnlessRefused (Ok u) g opens closes machine job path io end = ExecutesJobInFile g opens opens closes machine job path io end
 OpensUnlessRefused (Err refusal) g opens closes machine job path io end = (end ≡ ending.Statement (Refused refusal)) × (io.after ≡ io.before)
 
 -- The job was executed in the file at the path, unless its words are refused
@@ -111,7 +112,7 @@ place_of_job (job.Explain db words) = InFile (string_bytes db)
 abbrev pub ExecutesJobAt : {S R : Type 0} → Ghosts S → OpenRelation S → OpenRelation S → CloseRelation S → Bor R → Job → DeskPlace → InputAndOutput → Ending
     → Type 0
 ExecutesJobAt g creates opens closes machine job InMemory io end = ExecutesJobInMemory machine job io end
-ExecutesJobAt g creates opens closes machine job (InFileOrNewFile path) io end = ExecutesJobInFile g creates closes machine job path io end
+ExecutesJobAt g creates opens closes machine job (InFileOrNewFile path) io end = ExecutesJobInFile g creates opens closes machine job path io end
 ExecutesJobAt g creates opens closes machine job (InFile path) io end = ExecutesJobInExistingFile g opens closes machine job path io end
 
 -- After an audit that passed, and the close of its file, `ok` was written (`WritesAuditOk`).
@@ -120,8 +121,7 @@ abbrev pub PrintsOkAfterAudit : Job → Ending → Option Text → Option Text �
 PrintsOkAfterAudit (job.Audit db) ending.Done before after end = WritesAuditOk before after end
 PrintsOkAfterAudit job reached before after end = (end ≡ reached) × (after ≡ before)
 
--- The job was executed once, on the desk at its place, and after an audit that passed `ok` was
--- written.
+-- The job was executed once, on the desk at its place; after a passed audit `ok` was written.
 pub record RunsJob {S R : Type 0} (g : Ghosts S) (creates opens : OpenRelation S) (closes : CloseRelation S) (machine : Bor R) (job : Job) (io : InputAndOutput)
     (end : Ending) : Type 0 where
   -- The ending and the writer's content before the `ok` of an audit.

@@ -11,8 +11,9 @@ use Rattle.brk_io.specs.declared.usage_fault.UsageFault.{UsageFault}
 use Rattle.brk_io.specs.declared.usage_fault.UsageFault.TheVariants as usage
 use Rattle.brk_money.specs.Spelling.{Text}
 use Rattle.brk_cli_jobs.specs.BatchText.{CompletesBatchOfJob, PrintsBatchOfJob}
+use Rattle.brk_cli_jobs.specs.Files.{CloseRelation, OpenRelation}
 use Rattle.brk_cli_jobs.specs.Jobs.{InputAndOutput}
-use Rattle.brk_cli_jobs.specs.Places.{CloseRelation, DeskPlace, InFile, InFileOrNewFile, InMemory, OpenRelation, RunsJob}
+use Rattle.brk_cli_jobs.specs.Places.{DeskPlace, InFile, InFileOrNewFile, InMemory, RunsJob}
 use Rattle.brk_cli_jobs.specs.declared.jobs.Place.{Place}
 use Rattle.brk_cli_jobs.specs.declared.jobs.Place.TheVariants as place
 

@@ -12,8 +12,7 @@ abbrev pub without_value : {A : Type 0} → ReadResult A → Result (Unit {0}) R
 without_value (Ok value) = Ok tt
 without_value (Err refusal) = Err refusal
 
--- The refusal of the words of the job if they are no query of a view, or no request for an
--- explanation. The words of any other job are not refused.
+-- The refusal of a job's malformed query of a view or request for an explanation, if there is one.
 abbrev pub result_of_words : Job → Result (Unit {0}) Refusal
 result_of_words (job.Batch db at) = Ok tt
 result_of_words (job.Statement db account from to) = Ok tt
@@ -22,8 +21,7 @@ result_of_words (job.Ask db json heads view arguments) = without_value (parse_qu
 result_of_words (job.Explain db words) = without_value (read_explain_request (map string_bytes words.items))
 result_of_words (job.Serve port db at streams) = Ok tt
 
--- The job has words that are parsed before its file is opened: it asks for a view or an
--- explanation.
+-- The job asks for a view or an explanation: its words are parsed before its file is opened.
 abbrev pub HasWords : Job → Type 0
 HasWords (job.Batch db at) = ⊥
 HasWords (job.Statement db account from to) = ⊥

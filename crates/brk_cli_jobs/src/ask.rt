@@ -1,3 +1,5 @@
+//! The job that prints a view, and the check of its query before the file is opened.
+
 ghost use Rattle.std.specs.Prelude.{◌≡◌, IfOk, None, map, string_bytes};
 ghost use Rattle.brk_cli_jobs.specs.Jobs.{WritesView};
 ghost use Rattle.brk_cli_jobs.specs.Words.{without_value};
@@ -48,5 +50,5 @@ pub(crate) fn execute_ask_job<S: Alter, W: Write>(
         return Ending::Open(Fault::Memory);
     };
     let written = write_asked(alloc, desk, view, &arguments, form, output);
-    output.after_write(written)
+    output.ending_of_write(written)
 }

@@ -1,10 +1,10 @@
 //! Jobs on a desk that is in memory, or in a file that is closed at the end.
 
 ghost use Rattle.brk_cli_jobs.specs.Jobs.{ExecutesJob};
-ghost use Rattle.brk_cli_jobs.specs.Places.{ExecutesJobInMemory, ExecutesJobOnOpened};
+ghost use Rattle.brk_cli_jobs.specs.Places.{ExecutesJobAndCloses, ExecutesJobInMemory, ExecutesJobOnOpened, ExecutesJobOnStore};
 
+use crate::desk_files::DeskFiles;
 use crate::pipe::PipeWriter;
-use crate::places::DeskFiles;
 use crate::{ask, batch, explain, serve, statement};
 use brk_ask::Form;
 use brk_cli_args::Job;
@@ -78,23 +78,66 @@ fn execute_job_at_store<R: Read + Drop, W: Write, S: Alter>(
     (ending, desk.into_store())
 }
 
-/// If the job is done but the file cannot be closed, returns `Open` with the fault of the close.
-pub(crate) fn execute_on_file<S: Alter, F: DeskFiles<Desk = Store<S>>, R: Read + Drop, W: Write>(
+fn execute_job_and_close<S: Alter, F: DeskFiles<Desk = Store<S>>, R: Read + Drop, W: Write>(
     rt: &HostRuntime,
     files: &F,
+    store: Store<S>,
+    job: &Job,
+    input: R,
+    output: &mut PipeWriter<W>,
+) -> Ending
+    ensures { ExecutesJobAndCloses S.Store F.closes rt.entry job.now store
+        (record { input = R.remaining input; before = W.contents output.old.output; after = W.contents output.new.output }) result }
+{
+    let (ending, store) = execute_job_at_store(rt, store, job, input, output);
+    ending_after_close(ending, files.close(store))
+}
+
+fn execute_on_store<S: Alter, F: DeskFiles<Desk = Store<S>>, R: Read + Drop, W: Write>(
+    rt: &HostRuntime,
+    files: &F,
+    path: &str,
+    store: Store<S>,
+    job: &Job,
+    input: R,
+    output: &mut PipeWriter<W>,
+) -> Ending
+    ensures { ExecutesJobOnStore S.Store F.opens F.closes rt.entry job.now path.now store
+        (record { input = R.remaining input; before = W.contents output.old.output; after = W.contents output.new.output }) result }
+{
+    match job {
+        Job::Serve {
+            port,
+            db: _,
+            at,
+            streams,
+        } => serve::execute_serve_job_in_file(rt, files, path, *port, *at, *streams, store),
+        _ => execute_job_and_close(rt, files, store, job, input, output),
+    }
+}
+
+/// Executes the job on the opened desk, and closes its file. If the job is done but the file cannot
+/// be closed, returns `Open` with the fault of the close. A job that serves opens the file again
+/// before a stream if a fault has closed its store.
+pub(crate) fn execute_job_on_opened<
+    S: Alter,
+    F: DeskFiles<Desk = Store<S>>,
+    R: Read + Drop,
+    W: Write,
+>(
+    rt: &HostRuntime,
+    files: &F,
+    path: &str,
     opened: Result<Store<S>, Fault>,
     job: &Job,
     input: R,
     output: &mut PipeWriter<W>,
 ) -> Ending
-    ensures { ExecutesJobOnOpened S.Store F.closes rt.entry job.now opened
+    ensures { ExecutesJobOnOpened S.Store F.opens F.closes rt.entry job.now path.now opened
         (record { input = R.remaining input; before = W.contents output.old.output; after = W.contents output.new.output }) result }
 {
     match opened {
-        Ok(store) => {
-            let (ending, store) = execute_job_at_store(rt, store, job, input, output);
-            ending_after_close(ending, files.close(store))
-        }
+        Ok(store) => execute_on_store(rt, files, path, store, job, input, output),
         Err(fault) => Ending::Open(fault),
     }
 }

@@ -10,6 +10,7 @@ use std::{fs, io};
 /// One byte more than a creation that was stopped leaves in a file.
 const START: u64 = 4097;
 
+// Reads four bytes, the most significant one first.
 #[tactic(auto, unfolding(sqlite_wal::specs::Format::be32))]
 fn read_number(bytes: &[u8], at: usize) -> u32
     requires { at + 4 ≤ length bytes.now }
@@ -75,6 +76,7 @@ fn is_part_of_first_page(file: &[u8]) -> bool
     file.len() == 1 || (file[0] == 0 && file.len() <= 4096)
 }
 
+// True of an empty file, and of one that a creation that was stopped leaves, beside its log.
 fn is_unfinished(file: &[u8], log: &[u8]) -> bool
     ensures { IsTrue result ↔ IsUnfinished file.now log.now }
 {
@@ -87,6 +89,7 @@ fn is_unfinished(file: &[u8], log: &[u8]) -> bool
     is_part_of_first_page(file) && log_begins_database(log)
 }
 
+// Decides by the bytes alone: those of the log count only if the file is no database.
 fn may_be_opened(file: &[u8], log: &[u8]) -> bool
     ensures { IsTrue result ↔ MayBeOpened file.now log.now }
 {
@@ -96,6 +99,8 @@ fn may_be_opened(file: &[u8], log: &[u8]) -> bool
     is_unfinished(file, log) && !log_has_commit(log)
 }
 
+// Reads the first `START` bytes of a file, none if it is missing. Fails on what is no regular file,
+// without opening it.
 fn read_start(rt: &HostRuntime, path: &str) -> io::Result<Vec<u8>> {
     let mut start = Vec::new(rt.alloc());
     match fs::metadata(rt, path) {
@@ -128,6 +133,8 @@ fn read_log(rt: &HostRuntime, path: &str) -> io::Result<Vec<u8>> {
     }
 }
 
+// Decides as `may_be_opened` on the file at `path`, and on its log unless the file is a database.
+// Fails if it cannot read one of them.
 fn examine(rt: &HostRuntime, path: &str) -> io::Result<bool> {
     let file = read_start(rt, path)?;
     let log = if has_database_header(&file) {

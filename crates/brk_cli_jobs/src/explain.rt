@@ -1,3 +1,5 @@
+//! The job that prints an explanation, and the check of its words before the file is opened.
+
 ghost use Rattle.std.specs.Prelude.{◌≡◌, IfOk, None, map, string_bytes};
 ghost use Rattle.brk_cli_jobs.specs.Jobs.{WritesExplanation};
 ghost use Rattle.brk_cli_jobs.specs.Words.{without_value};
@@ -44,5 +46,5 @@ pub(crate) fn execute_explain_job<S: Alter, W: Write>(
         Err(_) => return Ending::Open(Fault::Memory),
     };
     let written = write_explanation(alloc, desk, &what, output);
-    output.after_write(written)
+    output.ending_of_write(written)
 }

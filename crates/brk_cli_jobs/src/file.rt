@@ -64,7 +64,8 @@ fn adopt_connection<S: Alter>(
     Store::adopt(alloc, conn)
 }
 
-// An error of the close is ignored: the fault of the adoption is the cause.
+// Closes the connection if the adoption fails. An error of the close is ignored: the fault of the
+// adoption is the cause.
 fn adopt_file(rt: &HostRuntime, conn: Connection<FileStore<File>>) -> Result<FileDesk, Fault>
     ensures adopted { IsAdoptionResult conn result }
     ensures represented { IfOk result (λ store. RepresentsRowsOfFile over_files store) }

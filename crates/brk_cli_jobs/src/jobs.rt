@@ -1,12 +1,14 @@
+//! A job: the place of its desk, its execution there, and the `ok` after an audit.
+
 ghost use Rattle.std.specs.Prelude.{◌≡◌};
 ghost use Rattle.brk_cli_jobs.specs.BatchText.{CompletesBatchOfJob, PrintsBatchOfJob};
 ghost use Rattle.brk_cli_jobs.specs.Places.{ExecutesJobAt, ExecutesJobInExistingFile, PrintsOkAfterAudit, RunsJob, place_of_job, place_of_optional_path};
 ghost use Rattle.brk_cli_jobs.specs.Requested.{AnswersRequest, WritesHelpText, abstract_place};
 
 use crate::audit::write_audit_ok;
-use crate::desk::{execute_in_memory, execute_on_file};
+use crate::desk::{execute_in_memory, execute_job_on_opened};
+use crate::desk_files::DeskFiles;
 use crate::pipe::PipeWriter;
-use crate::places::DeskFiles;
 use crate::words::check_words;
 use brk_cli_args::{Job, UsageFault};
 use brk_cli_exit::Ending;
@@ -75,7 +77,7 @@ fn execute_in_existing_file<S: Alter, F: DeskFiles<Desk = Store<S>>, R: Read + D
     match check_words(rt.alloc(), job) {
         Ok(Ok(())) => {
             let opened = files.open(path);
-            execute_on_file(rt, files, opened, job, input, output)
+            execute_job_on_opened(rt, files, path, opened, job, input, output)
         }
         Ok(Err(refusal)) => Ending::Statement(ReportFault::Refused(refusal)),
         Err(_) => Ending::Open(Fault::Memory),
@@ -96,14 +98,14 @@ fn execute_job_at_place<S: Alter, F: DeskFiles<Desk = Store<S>>, R: Read + Drop,
         Place::Memory => execute_in_memory(rt, job, input, output),
         Place::FileOrNewFile(path) => {
             let opened = files.open_or_create(path);
-            execute_on_file(rt, files, opened, job, input, output)
+            execute_job_on_opened(rt, files, path, opened, job, input, output)
         }
         Place::ExistingFile(path) => execute_in_existing_file(rt, files, path, job, input, output),
     }
 }
 
 // The file is closed by then: `ok` is printed only if its close succeeded.
-fn print_ok<W: Write>(job: &Job, ending: Ending, output: &mut W) -> Ending
+fn print_ok_after_audit<W: Write>(job: &Job, ending: Ending, output: &mut W) -> Ending
     ensures { PrintsOkAfterAudit job.now ending (W.contents output.old) (W.contents output.new) result }
 {
     match (job, ending) {
@@ -136,7 +138,7 @@ pub fn execute_job<S: Alter, F: DeskFiles<Desk = Store<S>>, R: Read + Drop, W: W
         (record { input = R.remaining input; before = W.contents output.old.output; after = W.contents output.new.output }) result }
 {
     let ending = execute_job_at_place(rt, files, job, input, output);
-    print_ok(job, ending, output)
+    print_ok_after_audit(job, ending, output)
 }
 
 /// Executes the job that the command-line arguments request (`read_words`, `execute_job`). If they

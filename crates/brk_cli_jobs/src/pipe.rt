@@ -38,7 +38,7 @@ impl<W> PipeWriter<W> {
     }
 
     /// A write that failed because the pipe was closed is `ClosedPipe`, not `Statement`.
-    pub(crate) fn after_write(&self, written: Result<(), ReportFault>) -> Ending
+    pub(crate) fn ending_of_write(&self, written: Result<(), ReportFault>) -> Ending
         ensures { result ≡ ending_of_report self.now.is_closed written }
     {
         match written {
@@ -61,6 +61,7 @@ impl<W: Write> Write for PipeWriter<W> {
         written
     }
 
+    /// Flushes the other writer. Does not record a closed pipe: no job flushes.
     fn flush(&mut self) -> io::Result<()> {
         self.output.flush()
     }

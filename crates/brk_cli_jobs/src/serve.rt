@@ -3,12 +3,16 @@
 ghost use Rattle.std.specs.Prelude.{◌≡◌};
 ghost use Rattle.brk_cli_jobs.specs.Endings.{ending_of_serving, result_of_serving};
 ghost use Rattle.brk_cli_jobs.specs.Jobs.{ServesListener, ServesStreams};
+ghost use Rattle.brk_cli_jobs.specs.Serving.{ServesNextStream, ServesStreamOrCloses, ServesStreamsAndCloses, ServesStreamsInFile};
 
-use brk_cli_exit::Ending;
+use crate::desk_files::DeskFiles;
+use crate::reopening::ready_store;
+use brk_cli_exit::{Ending, ending_after_close};
 use brk_desk::Desk;
 use brk_http::{ListenFault, serve_listener};
 use brk_io::{Clock, ProgramClock};
 use brk_money::Stamp;
+use brk_store::Store;
 use sqlite::Alter;
 use std::alloc::Global;
 use std::net::TcpListener;
@@ -65,4 +69,93 @@ pub(crate) fn execute_serve_job<S: Alter>(
     };
     let mut clock = ProgramClock::new(rt, at);
     ending_of_serving(serve_on(rt.alloc(), &listener, streams, &mut clock, desk))
+}
+
+// If the stream ends because memory ran out, or cannot be accepted, the file is closed.
+fn serve_stream_or_close<S: Alter, F: DeskFiles<Desk = Store<S>>, C: Clock>(
+    alloc: Global,
+    files: &F,
+    listener: &TcpListener,
+    clock: &mut C,
+    store: Store<S>,
+) -> Result<Store<S>, Ending>
+    ensures { ServesStreamOrCloses S.Store F.closes C.gives clock.old clock.new store result }
+{
+    let mut desk = Desk::new(store);
+    match serve_on(alloc, listener, 1, clock, &mut desk) {
+        Ok(()) => Ok(desk.into_store()),
+        Err(ending) => Err(ending_after_close(ending, files.close(desk.into_store()))),
+    }
+}
+
+fn serve_next_stream<S: Alter, F: DeskFiles<Desk = Store<S>>, C: Clock>(
+    alloc: Global,
+    files: &F,
+    path: &str,
+    listener: &TcpListener,
+    clock: &mut C,
+    store: Store<S>,
+) -> Result<Store<S>, Ending>
+    ensures { ServesNextStream S.Store F.opens F.closes C.gives path.now clock.old clock.new store result }
+{
+    match ready_store(alloc, files, path, store) {
+        Ok(store) => serve_stream_or_close(alloc, files, listener, clock, store),
+        Err(fault) => Err(Ending::Open(fault)),
+    }
+}
+
+/// Serves `streams` streams of the listener in sequence on the store of the file at `path`, each as
+/// `serve_on` does, and closes the file. If a fault has closed the store, the file is opened and
+/// adopted again before the next stream. Returns `Open` with the fault if it cannot be, or if
+/// closing the file fails at the end.
+pub fn serve_file_on<S: Alter, F: DeskFiles<Desk = Store<S>>, C: Clock>(
+    alloc: Global,
+    files: &F,
+    path: &str,
+    listener: &TcpListener,
+    streams: u32,
+    clock: &mut C,
+    store: Store<S>,
+) -> Ending
+    ensures { ServesStreamsAndCloses S.Store F.opens F.closes C.gives path.now streams clock.old store result }
+{
+    let mut store = store;
+    let mut served = 0u32;
+    'streams: while served < streams {
+        store = match serve_next_stream(alloc, files, path, listener, clock, store) {
+            Ok(next) => next,
+            Err(ending) => return ending,
+        };
+        served += 1;
+    }
+    ending_after_close(Ending::Done, files.close(store))
+}
+
+/// Serves streams like `execute_serve_job`, on the desk in the file at `path`, and closes the file.
+/// If a fault has closed the store, its file is opened and adopted again before the next stream.
+/// If it cannot be, returns `Open` with the fault.
+pub(crate) fn execute_serve_job_in_file<S: Alter, F: DeskFiles<Desk = Store<S>>>(
+    rt: &HostRuntime,
+    files: &F,
+    path: &str,
+    port: u16,
+    at: Option<Stamp>,
+    streams: u32,
+    store: Store<S>,
+) -> Ending
+    ensures { ServesStreamsInFile S.Store F.opens F.closes rt.entry path.now at streams store result }
+{
+    let Ok(listener) = TcpListener::bind(rt, ("127.0.0.1", port)) else {
+        return ending_after_close(Ending::Net, files.close(store));
+    };
+    let mut clock = ProgramClock::new(rt, at);
+    serve_file_on(
+        rt.alloc(),
+        files,
+        path,
+        &listener,
+        streams,
+        &mut clock,
+        store,
+    )
 }

@@ -1,3 +1,5 @@
+//! The check of the words of any job before its file is opened.
+
 ghost use Rattle.std.specs.Prelude.{◌≡◌, IfOk, OnErr};
 ghost use Rattle.brk_cli_jobs.specs.Words.{HasWords, result_of_words};
 

@@ -1,5 +1,4 @@
--- The outcome of a desk's call for each result (`Outcome` of this crate), and the outcome of the
--- model that it represents (`run.Outcome` of brk_model).
+-- The outcome (`Outcome`) of each result of a desk's call, and the model's outcome (`run.Outcome`).
 use Rattle.std.specs.Prelude.{Result, Ok, Err}
 use Rattle.brk_money.specs.declared.fault.Fault.{Fault}
 use Rattle.brk_money.specs.declared.refusal.Refusal.{Refusal}
@@ -10,23 +9,20 @@ use Rattle.brk_desk.specs.CommandAnswers.{CommandAnswer, model_answer}
 use Rattle.brk_desk.specs.declared.call.Outcome.{Outcome}
 use Rattle.brk_desk.specs.declared.call.Outcome.TheVariants as desk_outcome
 
--- The outcome of the model that the outcome of a desk's call represents: an answer becomes the
--- answer of the model, and a view its list of records of texts; a refusal and a fault are
--- unchanged.
+-- The model's outcome for that of a desk's call: an answer becomes the model's, a view its list of
+-- records of texts; refusals and faults are unchanged.
 abbrev pub model_outcome : Outcome → run.Outcome
 model_outcome (desk_outcome.Did answer) = run.Did (model_answer answer)
 model_outcome (desk_outcome.Saw view) = run.Saw (records_of_view view)
 model_outcome (desk_outcome.NoView refusal) = run.NoView refusal
 model_outcome (desk_outcome.Failed fault) = run.Failed fault
 
--- The outcome of a desk's call that executed a command and returned this result: `Did` with its
--- answer, or `Failed` with its fault.
+-- The outcome of a command's result: `Did` with its answer, or `Failed` with its fault.
 abbrev pub outcome_of_command : Result CommandAnswer Fault → Outcome
 outcome_of_command (Ok answer) = desk_outcome.Did answer
 outcome_of_command (Err fault) = desk_outcome.Failed fault
 
--- The outcome of a desk's call that executed a query and returned this result: `Saw` with its view,
--- `NoView` with its refusal, or `Failed` with its fault.
+-- The outcome of a query's result: `Saw` with its view, `NoView` with its refusal, or `Failed`.
 abbrev pub outcome_of_query : Result (Result View Refusal) Fault → Outcome
 outcome_of_query (Ok (Ok view)) = desk_outcome.Saw view
 outcome_of_query (Ok (Err refusal)) = desk_outcome.NoView refusal

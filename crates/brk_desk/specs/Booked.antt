@@ -34,22 +34,20 @@ PreservesRepresentation g old new = (base : Base) → Represents g old base → 
 abbrev pub base_after_keyed_command : Base → ℕ → Command → Option Key → Base
 base_after_keyed_command base now command key = (keyed_step base now command key).1
 
--- The store was open in the state `old`, and for every base that it represented, `trees` are the
--- disk contents of a database that contains the tables of the base after the command, and the texts
--- of these tables are UTF-8.
+-- The store was open in the state `old`, and for every base that it represented, `trees` are disk
+-- contents with the tables of the base after the command, whose texts are UTF-8.
 abbrev pub IsDiskContentAfterCommand : {S : Type 0} → Ghosts S → Held S → ℕ → Command → Option Key → Trees → Type 0
 IsDiskContentAfterCommand g old now command key trees =
     IsTrue (state g old).is_open × ((base : Base) → Represents g old base → IsDiskContentOfRows (sheets (base_after_keyed_command base now command key)) trees)
     × ((base : Base) → Represents g old base → IsTrue (has_utf8_texts (sheets (base_after_keyed_command base now command key))))
 
--- The postcondition of a call that executes a command, between the states `old` and `new` of the
--- store. At `Ok` the call refines the model's step for the command. A refusal, a stored reply or an
--- error changes nothing in a store that is still open. A crash after the call exposes a state that
--- a crash before it could expose, or the tables after the command; after `Done` only these tables.
--- An error is `Memory` or `Store`. The command meets the formats that an audit checks, and its key
--- is well-formed. The clauses with the premise `HasCleanDisk`, and the promise on crashes in
--- `survives`, are vacuous if the disk assumption fails. `brk_store_transactions/specs/Holds.antt`
--- explains the terms of the clauses; `g` is the specification of the storage `S`.
+-- The postcondition of a call that executes a command. At `Ok` it refines the model's step for the
+-- command. A refusal, a stored reply or an error changes nothing in a store that is still open. A
+-- crash after the call exposes a state that a crash before it could expose, or the tables after the
+-- command; after `Done` only these. An error is `Memory` or `Store`. The command and its key are
+-- well-formed. The clauses with the premise `HasCleanDisk`, and `survives`, are vacuous if the disk
+-- assumption fails. `brk_store_transactions/specs/Holds.antt` explains the terms; `g` is the
+-- specification of the storage `S`.
 pub record CommandPost {S : Type 0} (g : Ghosts S) (old new : Held S) (now : ℕ) (command : Command) (key : Option Key)
     (result : Result CommandAnswer Fault) : Type 0 where
   -- At `Ok` the call refines the model's step. Vacuous if the disk assumption fails.
@@ -58,8 +56,7 @@ pub record CommandPost {S : Type 0} (g : Ghosts S) (old new : Held S) (now : ℕ
   pub same_bases_at_error : OnErr result (PreservesRepresentation g old new)
   -- The error is `Memory` or `Store`.
   pub fault : IfErr result IsCallFault
-  -- A crash after the call exposes a state that a crash before the call could expose, or the tables
-  -- after the command.
+  -- A crash after the call exposes a prior crash state, or the tables after the command.
   pub survives : Survives (state g old) (state g new) (IsDiskContentAfterCommand g old now command key)
   -- At `Done` a crash after the call exposes only the tables after the command.
   pub durable : HasCleanDisk (state g new) → IsDoneResult result → (base : Base) → Represents g old base
@@ -67,11 +64,9 @@ pub record CommandPost {S : Type 0} (g : Ghosts S) (old new : Held S) (now : ℕ
   -- At `Done` the store was open, is open, and has committed its current state.
   pub open_and_committed : HasCleanDisk (state g new) → IsDoneResult result
       → IsTrue (state g old).is_open × IsTrue (state g new).is_open × ((state g new).committed ≡ (state g new).now)
-  -- If the result is a refusal, a stored reply or a fault, and the database is open after the call,
-  -- it was open before and is unchanged.
+  -- If the result is not `Done` and the database is open, it was open before and is unchanged.
   pub unchanged_if_open : HasCleanDisk (state g new) → IsTrue (state g new).is_open → IsNotDoneResult result → WasOpenAndIsUnchanged (state g old) (state g new)
   -- If the disk assumption holds after the call, it held before.
   pub clean : HasCleanDisk (state g new) → HasCleanDisk (state g old)
-  -- The command meets the formats that an audit checks, and its key is well-formed, as all values
-  -- of their types are.
+  -- By their types, the command meets the formats of an audit, and the key is well-formed.
   pub well_formed : MeetsAuditFormats command × IfSome key IsWellFormedKey

@@ -1,5 +1,4 @@
--- The answer of the model that the answer of a call represents, and the results of a call by which
--- it commits a command or nothing.
+-- The model's answer for a call's answer, and the results by which a call commits or does not.
 use Rattle.std.specs.Prelude.{Result, Ok, Err}
 use Rattle.brk_money.specs.declared.fault.Fault.{Fault}
 use Rattle.brk_model.specs.Commands.{Answer}
@@ -9,13 +8,11 @@ use Rattle.brk_ref.specs.Answers.{abstract_answer}
 use Rattle.brk_ref.specs.declared.answer.Answer as code
 use Rattle.brk_ref.specs.declared.answer.Answer.TheVariants as given
 
--- The type of the answer of a call that executes a command: `Done` with a reply, `Again` with a
--- stored reply, or `Refused` with a refusal.
+-- The answer of a call that executes a command: `Done`, `Again` with a stored reply, or `Refused`.
 abbrev pub CommandAnswer : Type 0
 CommandAnswer = code.Answer Reply
 
--- The answer of the model that the answer of a call represents: `Done` with the reply, `Again` with
--- the bytes of the stored reply, or `Refused` with the refusal.
+-- The model's answer for that of a call: the reply, the bytes of the stored reply, or the refusal.
 abbrev pub model_answer : CommandAnswer → Answer
 model_answer answer = abstract_answer abstract_reply answer
 

@@ -1,5 +1,4 @@
--- The call of the model (`run.Call` of brk_model) that a desk's call (`Call` of this crate)
--- represents.
+-- The call of the model (`run.Call`) that a desk's call (`Call` of this crate) represents.
 use Rattle.std.specs.Prelude.{ℕ}
 use Rattle.brk_desk.specs.Keys.{optional_model_key}
 use Rattle.brk_desk_commands.specs.Commands.{abstract_command}
@@ -8,8 +7,7 @@ use Rattle.brk_view_rows.specs.Queries.{abstract_query}
 use Rattle.brk_desk.specs.declared.call.Call.{Call}
 use Rattle.brk_desk.specs.declared.call.Call.TheVariants as call
 
--- The call of the model that a desk's call represents, a command with its key or a query, paired
--- with the unchanged clock reading of the call.
+-- The model's call that a desk's call represents, paired with the unchanged clock reading.
 abbrev pub model_call : ℕ × Call → ℕ × run.Call
 model_call (now, call.Do command key) = (now, run.Do (abstract_command command) (optional_model_key key))
 model_call (now, call.Ask query) = (now, run.Ask (abstract_query query))

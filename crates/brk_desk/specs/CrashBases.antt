@@ -8,27 +8,23 @@ use Rattle.brk_model.specs.Keyed.{keyed_step}
 use Rattle.brk_model.specs.Records.{Key}
 use Rattle.brk_model.specs.Run.{Call, Do, Outcome, Did, Failed, Run}
 
--- The outcome acknowledges no change: it is any outcome but `Did` with the answer `Done`. The
--- answer `Again` returns a stored reply and acknowledges no change.
+-- The outcome acknowledges no change: it is not `Did` with `Done`. `Again` returns a stored reply.
 abbrev pub AcknowledgesNothing : Outcome → Type 0
 AcknowledgesNothing (Did (Done reply)) = ⊥
 AcknowledgesNothing _ = Unit {0}
 
--- The run was `earlier`, then a command that returned a fault, then `later`, in which no call has
--- the outcome `Done`. `before` is the base after `earlier`, and `after` the base after the command
--- on `before`, as if it had not failed: `after` has the changes of `earlier` and of the command,
--- and no other.
+-- The run was `earlier`, then a command that returned a fault, then `later`, without the outcome
+-- `Done`. `after` is the base after the command, as if it had not failed, on `before`, the base
+-- after `earlier`: it has the changes of `earlier` and of the command, and no other.
 pub record HasUnacknowledgedCommand (base : Base) (calls : List (ℕ × Call)) (outcomes : List Outcome) (after : Base) : Type 0 where
-  -- The calls before the command, the command with its clock reading and its key, and the calls
-  -- after it.
+  -- The calls before the command, the command with clock reading and key, the calls after it.
   pub earlier : List (ℕ × Call)
   pub now : ℕ
   pub command : Command
   pub key : Rattle.std.specs.Prelude.Option Key
   pub later : List (ℕ × Call)
   pub calls_are : calls ≡ earlier ++ (now, Do command key) ∷ later
-  -- The outcomes of the calls before the command, the fault of the command, and the outcomes of the
-  -- calls after it.
+  -- The outcomes before the command, its fault, and the outcomes after it.
   pub earlier_outcomes : List Outcome
   pub fault : Fault
   pub later_outcomes : List Outcome

@@ -17,21 +17,18 @@ use Rattle.brk_trade_rows.specs.Changes.{tables_with_stored_reply}
 abbrev pub optional_model_key : Option given.Key → Option Key
 optional_model_key key = option_map abstract_key key
 
--- The first row of KEPT, in the order of the table, with the batch name and the row number of the
--- key, or `None` if there is no key or no such row.
+-- The first row of KEPT with the batch name and row number of the key; `None` without a key or row.
 abbrev pub kept_row_under_key : Tables → Option Key → Option Kept
 kept_row_under_key t None = None
 kept_row_under_key t (Some key) = find (λ k. bytes_eq k.key.batch key.batch && (k.key.n == key.n)) t.kept
 
--- With a key: the tables `t` with one more row of KEPT, inserted in key order, which stores
--- `command` and `reply` under the key. Without a key: `t` unchanged.
+-- `t` and, if there is a key, one more row of KEPT, in key order, with `command` and `reply`.
 abbrev pub tables_with_stored_command : Option Key → Command → Reply → Tables → Tables
 tables_with_stored_command None command reply t = t
 tables_with_stored_command (Some key) command reply t = tables_with_stored_reply (stored_reply_row key command reply) t
 
--- The postcondition of reading the row of KEPT under a key. With a key it equals that of a read
--- (`ReadPost`) whose value is the row under the key, or `None` if there is none. Without a key the
--- result is `None`, not a fault, and the store is unchanged.
+-- The postcondition of reading the row of KEPT under a key: a read (`ReadPost`) of that row, or of
+-- `None` if there is none. Without a key the result is `None`, and the store is unchanged.
 abbrev pub ReadStoredReplyPost : {S : Type 0} → Ghosts S → Held S → Held S → Option Key → Result (Option row.Kept) StoreFailed → Type 0
 ReadStoredReplyPost g old new None result = (new ≡ old) × (result ≡ Ok None)
 ReadStoredReplyPost g old new (Some key) result = ReadPost g old new result (λ kept t. option_map abstract_kept_row kept ≡ kept_row_under_key t (Some key))

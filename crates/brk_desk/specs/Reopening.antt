@@ -14,23 +14,20 @@ use Rattle.brk_trade_rows.specs.declared.schema.Schema as typed_schema
 use Rattle.brk_store_transactions.specs.Audited.{StoresRowsWithAuditResult, AuditAnswerSatisfies, Represents}
 use Rattle.brk_store_transactions.specs.Holds.{IsDiskContentOfRows, IsConnectionToDiskContent, CrashStatesSatisfy}
 
--- The store represents the base, and a crash exposes, in the desk's tables, only the rows of this
--- base.
+-- The store represents `base`, and a crash exposes, in the desk's tables, only the rows of `base`.
 pub record RepresentsDurableBase {S : Type 0} (g : Ghosts S) (store : Held S) (base : Base) : Type 0 where
   -- The store represents the base.
   pub represented : Represents g store base
   -- A crash exposes, in the desk's tables, only the rows of the base.
   pub crash_exposes_only_base : CrashStatesSatisfy g store (IsDiskContentOfRows (sheets base))
 
--- `conn` is in the state of a new connection to a database with the disk contents `trees`. Under
--- the disk assumption this is the state after `sqlite3_open`: open, in autocommit mode, without
--- savepoints, with `sqlite3_changes()` and `sqlite3_last_insert_rowid()` 0, and with a current
--- database that is committed.
+-- `conn` is a new connection to a database with the disk contents `trees`. Under the disk
+-- assumption it is as after `sqlite3_open`: open, in autocommit mode, without savepoints, with
+-- `sqlite3_changes()` and `sqlite3_last_insert_rowid()` 0, and its current database committed.
 pub record IsNewConnectionToDiskContent {S : Type 0} (g : Ghosts S) (trees : Trees) (conn : Held S) : Type 0 where
   -- The connection is to a database with these disk contents.
   pub connected : IsConnectionToDiskContent g trees conn
-  -- Under the disk assumption it is open, in autocommit mode, without savepoints, with
-  -- `sqlite3_changes()` and `sqlite3_last_insert_rowid()` 0, and its current state is committed.
+  -- Under the disk assumption it is in the state after `sqlite3_open`.
   pub opens : HasCleanDisk (state g conn) → Opens (state g conn)
 
 -- `conn` is in the state of a new connection (`IsNewConnectionToDiskContent`) to disk contents that
@@ -38,17 +35,15 @@ pub record IsNewConnectionToDiskContent {S : Type 0} (g : Ghosts S) (trees : Tre
 abbrev pub IsNewConnectionAfterCrash : {S : Type 0} → Ghosts S → Held S → Held S → Type 0
 IsNewConnectionAfterCrash g at_crash conn = (trees : Trees) × (state g at_crash).may_leave trees × IsNewConnectionToDiskContent g trees conn
 
--- The database of `conn` has rows of some schema that pass the audit of this schema, with texts in
--- UTF-8. `store` represents the base that these rows determine, and a crash exposes, in the desk's
--- tables, only the rows of this base.
+-- The database of `conn` has rows of some schema, in UTF-8, that pass its audit. `store` represents
+-- the base that they determine, and a crash exposes, in the desk's tables, only its rows.
 abbrev pub RepresentsAuditedRowsDurably : {S : Type 0} → Ghosts S → Held S → Held S → Type 0
 RepresentsAuditedRowsDurably g conn store =
     (schema : typed_schema.Schema) × (rows : Tables) × StoresRowsWithAuditResult (abstract_schema schema) rows (state g conn).now None
     × RepresentsDurableBase g store (base_of_tables rows)
 
--- The adoption with the result `result` did not fail with `Damaged`; at `Ok` the store represents
--- `base`, and a crash exposes, in the desk's tables, only the rows of `base`. If the adoption
--- failed with `Memory` or `Store`, nothing is specified of the store.
+-- The adoption did not fail with `Damaged`; at `Ok` the store represents `base`, and a crash
+-- exposes, in the desk's tables, only its rows. At `Memory` or `Store` nothing is specified of it.
 pub record AdoptsBaseWithoutDamage {S : Type 0} (g : Ghosts S) (store : Held S) (result : Result (Unit {0}) Fault) (base : Base) : Type 0 where
   -- The adoption did not fail with `Damaged`.
   pub undamaged : AuditAnswerSatisfies result (λ failing. failing ≡ None)

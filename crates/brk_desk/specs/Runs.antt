@@ -7,21 +7,18 @@ use Rattle.brk_desk.specs.CallPosts.{OutcomePost, RunPost, RunGuarantee}
 use Rattle.brk_desk.specs.declared.call.Call.{Call}
 use Rattle.brk_desk.specs.declared.call.Outcome.{Outcome}
 
--- Exactly these calls of the desk were executed between the state `old` and the state `new`, in
--- order, with these outcomes. The first field states this; the other two, the postcondition and the
--- guarantee of a run, follow from it (`call_sequences_are_runs`).
+-- Exactly these calls of the desk were executed between `old` and `new`, in order, with these
+-- outcomes (`executed`); the other two fields follow from it (`call_sequences_are_runs`).
 pub record IsRunWithOutcomes {S : Type 0} (g : Ghosts S) (old new : Held S) (calls : List (ℕ × Call)) (outcomes : List Outcome) : Type 0 where
-  -- Each call satisfies its postcondition (`OutcomePost`). The first call begins in the state
-  -- `old`, each later one in the state after the call before it, and the last one ends in `new`.
-  -- Without calls `new` equals `old`.
+  -- Each call satisfies `OutcomePost`, the first from the state `old`, each later one from the
+  -- state after the call before, up to `new`. Without calls `new` equals `old`.
   pub executed : IsCallSequence (λ old now call outcome new. OutcomePost g old new now call outcome) old calls outcomes new
   -- The postcondition of a run: answers, tables and crashes (`RunPost`).
   pub post : RunPost g old new calls outcomes
   -- The guarantee of a run: sums, taxes and the audit (`RunGuarantee`).
   pub guarantee : RunGuarantee g old new calls outcomes
 
--- The desk changed from the state `old` to the state `new` only by some calls of the desk, executed
--- in order, with some outcomes (`IsRunWithOutcomes`).
+-- Some calls of the desk, executed in order, changed it from `old` to `new`, and nothing else did.
 pub record IsSomeDeskRun {S : Type 0} (g : Ghosts S) (old new : Held S) : Type 0 where
   pub calls : List (ℕ × Call)
   pub outcomes : List Outcome

@@ -1,3 +1,5 @@
+//! The answer of the desk to a query.
+
 ghost use Rattle.brk_desk.specs.CallPosts.{AskPost};
 ghost use Rattle.brk_view_rows.specs.Queries.{abstract_query};
 

@@ -1,5 +1,5 @@
 //! Execution of a command: the decision on it and, if it is accepted, the commit of its row changes
-//! with its key.
+//! with its key. First, `prove_formats` applies the proofs of `formats` to the command and its key.
 
 ghost use Rattle.std.specs.Prelude.{IfSome};
 ghost use Rattle.std.specs.Option.{option_copied};
@@ -10,7 +10,7 @@ ghost use Rattle.brk_audit_theorems.specs.InForm.{MeetsAuditFormats, IsWellForme
 
 use crate::deciding::decide;
 use crate::formats::{prove_command, prove_key};
-use crate::keeping::{answer_retry, plan_with_reply, read_kept};
+use crate::keeping::{answer_retry, plan_with_stored_reply, read_kept};
 use brk_desk_commands::Command;
 use brk_money::{Fault, Stamp};
 use brk_ref::Key;
@@ -49,7 +49,7 @@ pub(crate) fn book_command<S: Alter>(
     }
     match decide(alloc, store, now, command)? {
         Ok(plan) => {
-            let plan = plan_with_reply(alloc, plan, command, key)?;
+            let plan = plan_with_stored_reply(alloc, plan, command, key)?;
             store.apply(&plan.changes)?;
             Ok(Answer::Done(plan.reply))
         }

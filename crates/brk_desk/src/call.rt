@@ -1,3 +1,5 @@
+//! A call of a run, which is a command or a query, and its outcome.
+
 ghost use Rattle.std.specs.Prelude.{◌≡◌};
 ghost use Rattle.brk_desk.specs.Answers.{outcome_of_command, outcome_of_query};
 
@@ -32,7 +34,7 @@ pub enum Outcome {
 }
 
 impl Outcome {
-    pub(crate) fn command_outcome(answered: Result<Answer, Fault>) -> Outcome
+    pub(crate) fn from_command_result(answered: Result<Answer, Fault>) -> Outcome
         ensures { result ≡ outcome_of_command answered }
     {
         match answered {
@@ -41,7 +43,7 @@ impl Outcome {
         }
     }
 
-    pub(crate) fn query_outcome(seen: Planned<View>) -> Outcome
+    pub(crate) fn from_query_result(seen: Planned<View>) -> Outcome
         ensures { result ≡ outcome_of_query seen }
     {
         match seen {

@@ -163,9 +163,9 @@ impl<S: Alter> Desk<S> {
     {
         match call {
             Call::Do(command, key) => {
-                Outcome::command_outcome(self.call(alloc, now, command, key.as_ref()))
+                Outcome::from_command_result(self.call(alloc, now, command, key.as_ref()))
             }
-            Call::Ask(query) => Outcome::query_outcome(self.ask(alloc, query)),
+            Call::Ask(query) => Outcome::from_query_result(self.ask(alloc, query)),
         }
     }
 

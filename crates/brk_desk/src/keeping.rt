@@ -36,6 +36,8 @@ pub(crate) fn read_kept<S: Alter>(
     }
 }
 
+// Returns the stored reply if the stored request equals that of `command`; otherwise refuses with
+// `KeyReused` (19).
 pub(crate) fn answer_retry(
     alloc: Global,
     command: &Command,
@@ -52,8 +54,9 @@ pub(crate) fn answer_retry(
     }
 }
 
-// The stored reply is the last change of the plan.
-pub(crate) fn plan_with_reply(
+// Adds to the plan, as its last change, the row that stores the request and the reply under `key`.
+// Without a key the plan is unchanged.
+pub(crate) fn plan_with_stored_reply(
     alloc: Global,
     plan: Plan,
     command: &Command,

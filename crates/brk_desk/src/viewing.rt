@@ -9,8 +9,8 @@ ghost use Rattle.brk_view_rows.specs.Queries.{abstract_query};
 
 use brk_desk_decisions::compute_order_estimate;
 use brk_desk_queries::{
-    recent_view, status_view, submitted_view, tax_id_view, touched_view, values_view,
-    view_by_account, view_by_ids, view_by_symbol, volume_view,
+    account_trades_view, customer_by_tax_id_view, customer_view, recent_view, status_view,
+    submitted_view, symbol_trades_view, touched_lots_view, trades_view, volume_view,
 };
 use brk_money::{CallFault, Planned};
 use brk_ref_orders::Order;
@@ -40,16 +40,18 @@ pub(crate) fn view_of_query<S: Alter>(
     ensures { ReadPost S.Store store.old store.new result (AnswersQueryAsModel (abstract_query query.now)) }
 {
     match query {
-        Query::Position(customer) => values_view(alloc, store, *customer),
-        Query::PositionOfTaxId(tax_id) => tax_id_view(alloc, store, tax_id),
+        Query::Position(customer) => customer_view(alloc, store, *customer),
+        Query::PositionOfTaxId(tax_id) => customer_by_tax_id_view(alloc, store, tax_id),
         Query::Recent(account) => recent_view(alloc, store, *account),
         Query::Status(account) => status_view(alloc, store, *account),
         Query::Submitted => submitted_view(alloc, store),
         Query::Estimate(order) => estimate_view(alloc, store, order),
-        Query::Trades(named) => view_by_ids(alloc, store, named),
-        Query::AccountTrades { account, span } => view_by_account(alloc, store, *account, *span),
-        Query::SymbolTrades { symbol, span } => view_by_symbol(alloc, store, symbol, *span),
-        Query::Lots { account, first } => touched_view(alloc, store, *account, *first),
+        Query::Trades(named) => trades_view(alloc, store, named),
+        Query::AccountTrades { account, span } => account_trades_view(
+            alloc, store, *account, *span,
+        ),
+        Query::SymbolTrades { symbol, span } => symbol_trades_view(alloc, store, symbol, *span),
+        Query::Lots { account, first } => touched_lots_view(alloc, store, *account, *first),
         Query::Volume { sector, names } => volume_view(alloc, store, sector, names),
     }
 }

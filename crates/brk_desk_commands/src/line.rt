@@ -40,7 +40,8 @@ fn append_estimate(line: &mut String, estimate: &Estimate) -> Result<(), AllocEr
     )
 }
 
-fn order_head_text(alloc: Global, ordered: &Ordered) -> Result<String, AllocError>
+// Stamp, trade id and status, which begin the line of an accepted order.
+fn ordered_line_start(alloc: Global, ordered: &Ordered) -> Result<String, AllocError>
     ensures { IfOk result (λ line. string_bytes line
         ≡ model.comma_separated_text (decimal ordered.now.stamp ∷ decimal ordered.now.trade ∷ trade_status_code ordered.now.status ∷ [])) }
 {
@@ -56,7 +57,7 @@ fn ordered_line(alloc: Global, ordered: &Ordered) -> Result<String, AllocError>
     ensures { IfOk result (λ line. string_bytes line
         ≡ model.line_text (replies.Ordered ordered.now.stamp ordered.now.trade ordered.now.status (abstract_estimate ordered.now.estimate))) }
 {
-    let mut line = order_head_text(alloc, ordered)?;
+    let mut line = ordered_line_start(alloc, ordered)?;
     append_estimate(&mut line, &ordered.estimate)?;
     Ok(line)
 }
@@ -112,8 +113,8 @@ fn append_day(line: &mut String, day: &str) -> Result<(), AllocError>
     write!(line, ",{day}")
 }
 
-// The values are the buy and the sell value of the closed shares.
-fn append_closing(line: &mut String, completed: &Completed) -> Result<(), AllocError>
+// The fields are the buy and the sell value of the closed shares, and the balance.
+fn append_closing_with_balance(line: &mut String, completed: &Completed) -> Result<(), AllocError>
     ensures { OnOk result (string_bytes line.new
         ≡ string_bytes line.old ++ fields_after_separators 44 (drop 4 (model.completion_fields (abstract_completion completed.now)))) }
 {
@@ -131,7 +132,7 @@ fn completed_line(alloc: Global, completed: &Completed) -> Result<String, AllocE
     let mut line = booked_line(alloc, completed.stamp)?;
     append_amounts(&mut line, completed)?;
     append_day(&mut line, due_day.as_str())?;
-    append_closing(&mut line, completed)?;
+    append_closing_with_balance(&mut line, completed)?;
     Ok(line)
 }
 
@@ -157,13 +158,13 @@ fn moved_line(
     )
 }
 
-fn price_line(alloc: Global, figures: &Estimate) -> Result<String, AllocError>
+fn estimate_price_text(alloc: Global, figures: &Estimate) -> Result<String, AllocError>
     ensures { IfOk result (λ line. string_bytes line ≡ model.comma_separated_text (model.nonnegative_cents_text figures.now.price ∷ [])) }
 {
     format!(in alloc; "{}", figures.price)
 }
 
-fn append_after_price(line: &mut String, figures: &Estimate) -> Result<(), AllocError>
+fn append_estimate_after_price(line: &mut String, figures: &Estimate) -> Result<(), AllocError>
     ensures { OnOk result (string_bytes line.new
         ≡ string_bytes line.old ++ fields_after_separators 44 (drop 1 (model.estimate_fields (abstract_estimate figures.now)))) }
 {
@@ -182,8 +183,8 @@ fn append_after_price(line: &mut String, figures: &Estimate) -> Result<(), Alloc
 fn estimated_line(alloc: Global, figures: &Estimate) -> Result<String, AllocError>
     ensures { IfOk result (λ line. string_bytes line ≡ model.line_text (replies.Estimated (abstract_estimate figures.now))) }
 {
-    let mut line = price_line(alloc, figures)?;
-    append_after_price(&mut line, figures)?;
+    let mut line = estimate_price_text(alloc, figures)?;
+    append_estimate_after_price(&mut line, figures)?;
     Ok(line)
 }
 

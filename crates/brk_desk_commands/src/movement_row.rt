@@ -36,7 +36,8 @@ pub fn row_of_movement(alloc: Global, movement: &Movement) -> Result<String, All
     }
 }
 
-fn oneday_row(alloc: Global, day: &str) -> Result<String, AllocError>
+// `day` is the text of the day.
+fn format_oneday_row(alloc: Global, day: &str) -> Result<String, AllocError>
     ensures { IfOk result (λ row. string_bytes row ≡ join_with_byte 31 (codes "oneday" ∷ day.now ∷ [])) }
 {
     format!(in alloc; "oneday\x1f{day}")
@@ -47,5 +48,5 @@ pub fn row_of_oneday(alloc: Global, day: Day) -> Result<String, AllocError>
     ensures { IfOk result (λ row. string_bytes row ≡ model.row_text (SetOneDay day)) }
 {
     let text = day_text(alloc, day)?;
-    oneday_row(alloc, text.as_str())
+    format_oneday_row(alloc, text.as_str())
 }

@@ -1,5 +1,6 @@
-//! Parsing of the fields of a row. The kinds are split over five functions of four modules, so that
-//! each pattern stays within the limits of the prover.
+//! Parsing of the fields of a row, by its kind: here of the rows that set a desk up, in
+//! `parse_order`, `parse_update` and `parse_movement` of the others. The kinds are split over five
+//! functions, so that each pattern stays within the limits of the prover.
 
 ghost use Rattle.std.specs.Prelude.{◌≡◌, ◌∷◌, ◌++◌, IfOk, OnErr, Err};
 ghost use Rattle.brk_model.specs.Parse.{parse_by_first_field, read_account, read_and_wrap, read_commission_band, read_broker, read_charge};
@@ -12,7 +13,7 @@ ghost use Rattle.brk_ref.specs.Fields.{ParsesAs, texts_of_fields};
 ghost use Rattle.brk_desk_commands.specs.Commands.{abstract_command};
 
 use crate::command::Command;
-use crate::parse_order::trade_of_kind;
+use crate::parse_order::parse_trade_kinds;
 use brk_money::{Planned, Refusal};
 use brk_ref::{
     check_account, check_band, check_broker, check_charge, check_customer, check_customer_tax,
@@ -109,8 +110,9 @@ fn customer_tax_command(fields: &[&[u8]]) -> Result<Command, Refusal>
     }
 }
 
-// Refuses `broker`, `customer` and `account` as unknown kinds: the caller has parsed these.
-fn record_of_kind(alloc: Global, kind: &[u8], fields: &[&[u8]]) -> Planned<Command, AllocError>
+// Parses the other rows that set a desk up and, by `parse_trade_kinds`, all other kinds. Refuses
+// `broker`, `customer` and `account` as unknown kinds: the caller has parsed these.
+fn parse_record_kinds(alloc: Global, kind: &[u8], fields: &[&[u8]]) -> Planned<Command, AllocError>
     ensures { IfOk result (λ read. ParsesAs abstract_command read (parse_by_first_field (other_reference_row_parsers ++ order_feed_and_cancel_parsers
         ++ result_row_parsers ++ update_row_parsers ++ movement_and_one_day_settlement_row_parsers) (kind.now
         ∷ texts_of_fields fields.now))) }
@@ -133,7 +135,7 @@ fn record_of_kind(alloc: Global, kind: &[u8], fields: &[&[u8]]) -> Planned<Comma
     if kind == b"custtax".as_slice() {
         return Ok(customer_tax_command(fields));
     }
-    trade_of_kind(alloc, kind, fields)
+    parse_trade_kinds(alloc, kind, fields)
 }
 
 fn parse_kind(alloc: Global, kind: &[u8], fields: &[&[u8]]) -> Planned<Command, AllocError>
@@ -148,7 +150,7 @@ fn parse_kind(alloc: Global, kind: &[u8], fields: &[&[u8]]) -> Planned<Command, 
     if kind == b"account".as_slice() {
         return account_command(alloc, fields);
     }
-    record_of_kind(alloc, kind, fields)
+    parse_record_kinds(alloc, kind, fields)
 }
 
 /// Parses the command of a row from its fields, the kind first.

@@ -30,7 +30,8 @@ fn oneday_command(fields: &[&[u8]]) -> Result<Command, Refusal>
     }
 }
 
-pub(crate) fn cash_of_kind(kind: &[u8], fields: &[&[u8]]) -> Result<Command, Refusal>
+// Parses `deposit`, `withdraw` and `oneday`. Refuses any other kind with `BadText` (18).
+pub(crate) fn parse_movement_kinds(kind: &[u8], fields: &[&[u8]]) -> Result<Command, Refusal>
     ensures { ParsesAs abstract_command result (parse_by_first_field movement_and_one_day_settlement_row_parsers (kind.now ∷ texts_of_fields fields.now)) }
 {
     if kind == b"deposit".as_slice() {

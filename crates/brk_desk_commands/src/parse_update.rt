@@ -9,7 +9,7 @@ ghost use Rattle.brk_ref.specs.Fields.{ParsesAs, texts_of_fields};
 ghost use Rattle.brk_desk_commands.specs.Commands.{abstract_command};
 
 use crate::command::Command;
-use crate::parse_movement::cash_of_kind;
+use crate::parse_movement::parse_movement_kinds;
 use brk_money::{Planned, Refusal};
 use brk_ref_orders::{parse_cash_name_update, parse_cash_type_update, parse_executor_update};
 use std::alloc::{AllocError, Global};
@@ -24,7 +24,7 @@ fn executor_command(alloc: Global, fields: &[&[u8]]) -> Planned<Command, AllocEr
 }
 
 // FROM may be later than TO.
-fn type_command(fields: &[&[u8]]) -> Result<Command, Refusal>
+fn cash_type_command(fields: &[&[u8]]) -> Result<Command, Refusal>
     ensures { ParsesAs abstract_command result (read_cash_type_update (texts_of_fields fields.now)) }
 {
     match parse_cash_type_update(fields) {
@@ -34,7 +34,7 @@ fn type_command(fields: &[&[u8]]) -> Result<Command, Refusal>
 }
 
 // FROM may be later than TO.
-fn name_command(alloc: Global, fields: &[&[u8]]) -> Planned<Command, AllocError>
+fn cash_name_command(alloc: Global, fields: &[&[u8]]) -> Planned<Command, AllocError>
     ensures { IfOk result (λ read. ParsesAs abstract_command read (read_cash_name_update (texts_of_fields fields.now))) }
 {
     match parse_cash_name_update(alloc, fields)? {
@@ -43,7 +43,8 @@ fn name_command(alloc: Global, fields: &[&[u8]]) -> Planned<Command, AllocError>
     }
 }
 
-pub(crate) fn update_of_kind(
+// Parses `upname`, `upcash` and `uptext` and, by `parse_movement_kinds`, the kinds after these.
+pub(crate) fn parse_update_kinds(
     alloc: Global,
     kind: &[u8],
     fields: &[&[u8]],
@@ -55,10 +56,10 @@ pub(crate) fn update_of_kind(
         return executor_command(alloc, fields);
     }
     if kind == b"upcash".as_slice() {
-        return Ok(type_command(fields));
+        return Ok(cash_type_command(fields));
     }
     if kind == b"uptext".as_slice() {
-        return name_command(alloc, fields);
+        return cash_name_command(alloc, fields);
     }
-    Ok(cash_of_kind(kind, fields))
+    Ok(parse_movement_kinds(kind, fields))
 }

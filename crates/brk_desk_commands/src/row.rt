@@ -118,7 +118,7 @@ fn row_of_tax_rate(alloc: Global, tax: &Tax) -> Result<String, AllocError>
     )
 }
 
-fn row_of_taxpayer(alloc: Global, pays: &CustomerTax) -> Result<String, AllocError>
+fn row_of_customer_tax(alloc: Global, pays: &CustomerTax) -> Result<String, AllocError>
     ensures { IfOk result (λ row. string_bytes row ≡ model.row_text (AddCustomerTax (abstract_customer_tax pays.now))) }
 {
     format!(in alloc; "custtax\x1f{}\x1f{}", pays.customer.get(), pays.tax.get())
@@ -137,7 +137,7 @@ pub fn row_of_reference(alloc: Global, reference: &Reference) -> Result<String, 
         Reference::Charge(charge) => row_of_charge(alloc, charge),
         Reference::Band(band) => row_of_band(alloc, band),
         Reference::TaxRate(tax) => row_of_tax_rate(alloc, tax),
-        Reference::CustomerTax(pays) => row_of_taxpayer(alloc, pays),
+        Reference::CustomerTax(pays) => row_of_customer_tax(alloc, pays),
     }
 }
 

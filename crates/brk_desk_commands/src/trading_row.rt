@@ -15,7 +15,8 @@ use brk_ref::{cash_or_margin_word, lifo_or_fifo_word};
 use brk_ref_orders::{Completion, Order, Tick};
 use std::alloc::{AllocError, Global};
 
-fn order_head(alloc: Global, order: &Order) -> Result<String, AllocError>
+// Kind, account, type, symbol and quantity, which begin the row of an order.
+fn order_row_start(alloc: Global, order: &Order) -> Result<String, AllocError>
     ensures { IfOk result (λ row. string_bytes row ≡ join_with_byte 31 (codes "order" ∷ take 4 (model.order_fields (abstract_order order.now)))) }
 {
     format!(in alloc;
@@ -38,7 +39,7 @@ fn append_price(row: &mut String, order_type: OrderType) -> Result<(), AllocErro
     }
 }
 
-fn append_rest(row: &mut String, order: &Order) -> Result<(), AllocError>
+fn append_order_after_price(row: &mut String, order: &Order) -> Result<(), AllocError>
     ensures { OnOk result (string_bytes row.new ≡ string_bytes row.old ++ fields_after_separators 31 (drop 5 (model.order_fields (abstract_order order.now)))) }
 {
     write!(
@@ -56,9 +57,9 @@ fn append_rest(row: &mut String, order: &Order) -> Result<(), AllocError>
 pub fn row_of_order(alloc: Global, order: &Order) -> Result<String, AllocError>
     ensures { IfOk result (λ row. string_bytes row ≡ model.row_text (PlaceOrder (abstract_order order.now))) }
 {
-    let mut row = order_head(alloc, order)?;
+    let mut row = order_row_start(alloc, order)?;
     append_price(&mut row, order.order_type)?;
-    append_rest(&mut row, order)?;
+    append_order_after_price(&mut row, order)?;
     Ok(row)
 }
 

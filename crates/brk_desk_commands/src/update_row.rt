@@ -11,7 +11,8 @@ use brk_ref::{Span, Symbol};
 use brk_ref_orders::Update;
 use std::alloc::{AllocError, Global};
 
-fn append_named(row: &mut String, trade: Id) -> Result<(), AllocError>
+// Appends the id of a trade that `upname` names.
+fn append_updated_trade(row: &mut String, trade: Id) -> Result<(), AllocError>
     ensures { OnOk result (string_bytes row.new ≡ string_bytes row.old ++ 31 ∷ decimal trade) }
 {
     write!(row, "\x1f{}", trade.get())
@@ -22,7 +23,7 @@ fn row_of_executor(alloc: Global, trades: &[Id]) -> Result<String, AllocError>
 {
     let mut row = String::from_str(alloc, "upname")?;
     for trade in trades {
-        append_named(&mut row, *trade)?;
+        append_updated_trade(&mut row, *trade)?;
     }
     Ok(row)
 }

@@ -3,12 +3,12 @@ use Rattle.std.proofs.Common.{◌≡◌, ◌==◌, ◌∙◌, ℕ, Option, Some,
 use Rattle.std.specs.Prelude.{IfSome}
 use Rattle.brk_model.specs.Joins.{account_row_with_id, security_row_with_symbol, trade_row_with_id}
 use Rattle.brk_model.specs.Records.{Customer}
-use Rattle.brk_model.specs.Tables.{AccountRow, SecurityRow, Tables}
+use Rattle.brk_model.specs.Tables.{AccountRow, BrokerRow, SecurityRow, Tables}
 use Rattle.brk_ref.specs.declared.account.AccountRow as ref
+use Rattle.brk_ref.specs.declared.broker.BrokerRow as broker_row
 use Rattle.brk_ref.specs.declared.customer.Customer as customer
-use Rattle.brk_ref.specs.Records.{abstract_account_row, abstract_security_row}
+use Rattle.brk_ref.specs.Records.{abstract_account_row, abstract_broker_row, abstract_security_row}
 use Rattle.brk_ref.specs.Rows.{abstract_summary_row, abstract_trade_row}
-use Rattle.brk_trade_rows.specs.declared.broker_totals.BrokerTotals.{BrokerTotals}
 use Rattle.brk_trade.specs.declared.result_found.Posting.{Posting}
 use Rattle.brk_trade.specs.declared.result_found.ResultPlanFacts.{ResultPlanFacts}
 use Rattle.brk_trade.specs.declared.result_found.TradedSecurity.{TradedSecurity}
@@ -17,7 +17,7 @@ use Rattle.brk_ref.specs.declared.summary_row.SummaryRow as summary
 use Rattle.brk_ref.specs.declared.trade_row.TradeRow.{TradeRow}
 use Rattle.brk_trade_books.specs.Reads.{customer_tax_rate_sum}
 use Rattle.brk_trade_books.specs.TradeReads.{commission_band_of_quantity, summary_row_of_position}
-use Rattle.brk_store_required.specs.Required.{AreTotalsOfBroker, IsCustomerWithId}
+use Rattle.brk_store_required.specs.Required.{IsBrokerWithId, IsCustomerWithId}
 use Rattle.brk_desk_decisions.specs.ResultFactReads.{PartyFactsMatchTables, AreResultFactsOfTradeWithId, AreResultFactsOfTrade, SecurityFactsMatchTables, PostingFactsMatchTables}
 
 -- what holds of what is there leads to what holds of it
@@ -25,9 +25,9 @@ if_there : {X : Type 0} (o : Option X) (P Q : X → Type 0) → ((x : X) → P x
 if_there None P Q f p = tt
 if_there (Some x) P Q f p = f x p
 
--- The row of an account with its customer's tier, the sum of the customer's tax rates, and the
--- totals of its broker.
-abbrev pub parties_of_rows : ref.AccountRow → customer.Customer → ℕ → BrokerTotals → TradeParties
+-- The row of an account with its customer's tier, the sum of the customer's tax rates, and the row
+-- of its broker.
+abbrev pub parties_of_rows : ref.AccountRow → customer.Customer → ℕ → broker_row.BrokerRow → TradeParties
 parties_of_rows row customer rates broker = record {
   account = row;
   broker = broker;
@@ -35,14 +35,14 @@ parties_of_rows row customer rates broker = record {
   rates = rates;
 }
 
-pub parties_known : (t : Tables) (row : ref.AccountRow) (customer : customer.Customer) (rates : ℕ) (broker : BrokerTotals) → IsCustomerWithId t row.account.customer customer
-    → rates ≡ customer_tax_rate_sum t row.account.customer → AreTotalsOfBroker t row.account.broker broker
+pub parties_known : (t : Tables) (row : ref.AccountRow) (customer : customer.Customer) (rates : ℕ) (broker : broker_row.BrokerRow) → IsCustomerWithId t row.account.customer customer
+    → rates ≡ customer_tax_rate_sum t row.account.customer → IsBrokerWithId t row.account.broker broker
     → PartyFactsMatchTables t (abstract_account_row row) (parties_of_rows row customer rates broker)
 parties_known t row customer rates broker k e n = record {
   account = refl;
   tier = subst (λ x. IfSome x (λ (c : Customer). customer.tier ≡ c.tier)) (sym k) refl;
   rates = e;
-  broker = n;
+  broker = subst (λ x. IfSome x (λ (b : BrokerRow). abstract_broker_row broker ≡ b)) (sym n) refl;
 }
 
 -- The facts for the decision on a result: the trade, its parties, its security, its summary, and the
@@ -97,7 +97,7 @@ module _ (t : Tables) (trade : TradeRow) (parties : TradeParties) (listed : Trad
       summary = λ p. summary;
       account = λ p. of_owner owner (λ a. abstract_account_row parties.account ≡ a) (λ a k. k.account);
       rates = λ p. of_owner owner (λ a. parties.rates ≡ customer_tax_rate_sum t a.customer) (λ a k. k.rates);
-      broker = λ p. of_owner owner (λ a. AreTotalsOfBroker t a.broker parties.broker) (λ a k. k.broker);
+      broker = λ p. of_owner owner (λ a. IfSome (find (λ r. r.id == a.broker) t.brokers) (λ b. abstract_broker_row parties.broker ≡ b)) (λ a k. k.broker);
       security = λ p. of_security security (λ s. abstract_security_row listed.security ≡ s) (λ s l. l.security);
       rule = λ p. posted.rule;
       next = λ p. posted.next;

@@ -14,10 +14,9 @@ use Rattle.brk_trade_plans.specs.declared.estimate.Estimate.{Estimate}
 use Rattle.brk_trade_plans.specs.Replies.{abstract_estimate}
 use Rattle.brk_trade_books.specs.Books.{BooksInvariant}
 
--- `planned` is the result of the model for the estimate of `order`, for every base that satisfies
--- the books invariant and has the tables `t`: an estimate equals the model's estimate, and the view
--- of the query `EstimateOf` is one record with its fields; a refusal is the refusal of this query.
--- Vacuous if no base that satisfies this invariant has the tables `t`.
+-- `planned` is the model's result for the estimate of `order`, for every base that satisfies the
+-- books invariant and has the tables `t`: the estimate, where the view of the query `EstimateOf` is
+-- one record with its fields; or the refusal of this query. Vacuous without such a base.
 abbrev pub IsEstimateOfModel : Order → Result Estimate Refusal → Tables → Type 0
 IsEstimateOfModel order planned t =
     (base : Base) → BooksInvariant base → t ≡ sheets base

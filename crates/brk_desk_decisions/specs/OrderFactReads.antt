@@ -18,11 +18,10 @@ use Rattle.brk_desk_decisions.specs.declared.order_check_reads.OrderCheckFacts.{
 use Rattle.brk_desk_decisions.specs.declared.amounts.Amounts.{Amounts}
 use Rattle.brk_store_required.specs.Valuation.{market_value_of_account}
 
--- The facts `tested` that the checks of the order `order` of the customer `customer` test agree
--- with the tables `t`: the last price of its symbol in cents, whether its executor is the customer
--- or has a permission of the account, the charge in cents and the commission rate in hundredths of
--- a percent. A price, charge or rate that the tables do not have is `None`. The rate is specified
--- only if the security of the order exists.
+-- The facts `tested` on the order `order` of `customer` agree with the tables `t`: the last price
+-- in cents, whether the executor is the customer or has a permission of the account, the charge in
+-- cents and the commission rate in hundredths of a percent; `None` if the tables have none. The
+-- rate is specified only if the security of the order exists.
 pub record CustomerOrderFactsMatchTables (t : Tables) (order : Order) (customer : Customer) (tested : OrderCheckFacts) : Type 0 where
   pub last_price : tested.last_price ≡ last_price_of_symbol t order.symbol
   pub is_permitted : tested.is_permitted
@@ -32,19 +31,16 @@ pub record CustomerOrderFactsMatchTables (t : Tables) (order : Order) (customer 
   pub rate : IfSome (security_row_with_symbol t order.symbol) (λ s. tested.rate
       ≡ option_map (λ b. b.rate) (commission_band_of_quantity t customer.tier (trade_type_of_order_type order.order_type) s.exchange order.qty))
 
--- `assets` is the balance in the row `account` plus the market value of the account's holdings in
--- the tables `t`, in cents. `shares` is the account's number of shares of the security with the
--- symbol `symbol`, below 0 if they were sold short, or `None` if the account has no summary of the
--- security.
+-- `assets` is the balance in the row `account` plus the market value of its holdings in the tables
+-- `t`, in cents. `shares` is its number of shares of the security `symbol`, below 0 if sold short,
+-- or `None` if it has no summary of the security.
 pub record AreAssetsAndSharesOfAccount (t : Tables) (account : AccountRow) (symbol : Text) (assets : ℤ) (shares : Option ℤ) : Type 0 where
   pub assets_total : assets ≡ account.balance +ℤ market_value_of_account t account.account.id
   pub shares_held : shares ≡ option_map (λ r. r.qty) (summary_row_of_position t account.account.id symbol)
 
--- The amounts `amounts` for the estimate of the order `order` of the account `account` agree with
--- the tables `t`: the sum of the tax rates of the account's customer in hundred-thousandths, the
--- account's balance plus the market value of its holdings in cents, and the account's number of
--- shares of the order's security, below 0 if they were sold short, or `None` if the account has no
--- summary of the security.
+-- The amounts `amounts` for the estimate of `order` agree with the tables `t`: the sum of the tax
+-- rates of the account's customer in hundred-thousandths, and the account's assets in cents and
+-- shares of the order's security (`AreAssetsAndSharesOfAccount`).
 pub record EstimateAmountsMatchTables (t : Tables) (account : AccountRow) (order : Order) (amounts : Amounts) : Type 0 where
   pub rates : amounts.rates ≡ customer_tax_rate_sum t account.account.customer
   pub held : AreAssetsAndSharesOfAccount t account order.symbol amounts.assets amounts.summary
@@ -54,9 +50,8 @@ abbrev pub facts_without_account : OrderPlanFacts
 facts_without_account =
     record { account = None; last_price = None; is_permitted = false; charge = None; rate = None; rates = 0; assets = pos 0; summary = None; last_trade = None }
 
--- The facts for the decision on an order of the account `account`: its broker and its tax status,
--- the facts `tested`, the amounts `amounts`, and `None` as the greatest trade id, which an estimate
--- does not need.
+-- The facts for the decision on an order of `account`: its broker and tax status, `tested`,
+-- `amounts`, and `None` as the greatest trade id, which an estimate does not need.
 abbrev pub facts_with_account : AccountRow → OrderCheckFacts → Amounts → OrderPlanFacts
 facts_with_account account tested amounts = record {
   account = Some (record { broker = account.account.broker; tax_status = account.account.tax_status });

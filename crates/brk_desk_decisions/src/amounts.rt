@@ -6,7 +6,7 @@ ghost use Rattle.brk_desk_decisions.specs.OrderFactReads.{AreAssetsAndSharesOfAc
 ghost use Rattle.brk_store_transactions.specs.Holds.{ReadPost};
 
 use crate::summary_finding::symbol_shares;
-use crate::terms::limited_tax_sum;
+use crate::terms::checked_tax_rate_sum;
 use brk_money::{CallFault, Cents, Id, TaxRate, Wide};
 use brk_ref::{AccountRow, Symbol};
 use brk_ref_orders::Order;
@@ -29,14 +29,14 @@ pub struct Amounts {
 
 // The sum is in hundred-thousandths. Fails with `Store` also if one of the customer's taxes does
 // not exist, or if the sum exceeds the greatest rate.
-pub(crate) fn tax_rate_sum<S: Alter>(
+pub(crate) fn require_tax_rate_sum<S: Alter>(
     alloc: Global,
     store: &mut Store<S>,
     customer: Id,
 ) -> Result<TaxRate, CallFault>
     ensures { ReadPost S.Store store.old store.new result (λ rates t. rates ≡ customer_tax_rate_sum t customer) }
 {
-    match limited_tax_sum(alloc, store, customer)? {
+    match checked_tax_rate_sum(alloc, store, customer)? {
         Some(rates) => Ok(rates),
         None => Err(CallFault::Store),
     }
@@ -52,9 +52,10 @@ fn add_balance(balance: Cents, worth: Wide) -> Option<Wide>
     }
 }
 
-// Reads the account's summaries once for both. Fails with `Store` also if a held symbol has no last
-// price, or if the sum overflows.
-fn account_amounts<S: Alter>(
+// Returns the assets of an account, and the number of its shares of the symbol. Reads the account's
+// summaries once for both. Fails with `Store` also if a held symbol has no last price, or if the
+// sum overflows.
+fn read_account_amounts<S: Alter>(
     alloc: Global,
     store: &mut Store<S>,
     account: &AccountRow,
@@ -71,7 +72,9 @@ fn account_amounts<S: Alter>(
     }
 }
 
-pub(crate) fn order_amounts<S: Alter>(
+// Reads the amounts for the estimate of `order`. Fails with `Store` also as `require_tax_rate_sum`
+// and `read_account_amounts` do.
+pub(crate) fn estimate_amounts<S: Alter>(
     alloc: Global,
     store: &mut Store<S>,
     account: &AccountRow,
@@ -79,8 +82,8 @@ pub(crate) fn order_amounts<S: Alter>(
 ) -> Result<Amounts, CallFault>
     ensures { ReadPost S.Store store.old store.new result (λ amounts t. EstimateAmountsMatchTables t account.now order.now amounts) }
 {
-    let rates = tax_rate_sum(alloc, store, account.account.customer)?;
-    let (assets, summary) = account_amounts(alloc, store, account, &order.symbol)?;
+    let rates = require_tax_rate_sum(alloc, store, account.account.customer)?;
+    let (assets, summary) = read_account_amounts(alloc, store, account, &order.symbol)?;
     Ok(Amounts {
         rates,
         assets,

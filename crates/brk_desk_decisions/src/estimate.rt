@@ -23,7 +23,7 @@ use brk_trade::{Estimate, OrderPlanFacts, Reply, plan_estimate};
 use sqlite::Alter;
 use std::alloc::Global;
 
-fn reply_estimate(reply: &Reply) -> Estimate
+fn estimate_of_reply(reply: &Reply) -> Estimate
     requires { (e : spec.Estimate) × (reply.now ≡ Estimated e) }
     ensures { reply.now ≡ Estimated result }
 {
@@ -59,7 +59,7 @@ fn plan_estimate_over_lots<S: Alter>(
         → lots.new ≡ lots.old }
 {
     match plan_estimate(order, found, lots) {
-        Ok(Ok(reply)) => Ok(Ok(reply_estimate(&reply))),
+        Ok(Ok(reply)) => Ok(Ok(estimate_of_reply(&reply))),
         Ok(Err(refusal)) => Ok(Err(refusal)),
         Err(fault) => Err(call_fault(fault)),
     }

@@ -117,7 +117,7 @@ fn read_order_rate<S: Alter>(
     }
 }
 
-pub(crate) fn check_facts<S: Alter>(
+pub(crate) fn order_check_facts<S: Alter>(
     alloc: Global,
     store: &mut Store<S>,
     order: &Order,

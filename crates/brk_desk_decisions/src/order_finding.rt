@@ -1,12 +1,12 @@
-//! Reads of the facts that decide on an order.
+//! Reads of the facts that decide on an order, and of those for its estimate.
 
 ghost use Rattle.std.specs.Prelude.{◌≡◌};
 ghost use Rattle.brk_trade_theorems.specs.OrderPlans.{EstimateFactsMatchTables, OrderFactsMatchTables};
 ghost use Rattle.brk_desk_decisions.specs.OrderFactReads.{EstimateFactsMatchIfAccountOfOrder, facts_with_account, facts_without_account};
 ghost use Rattle.brk_store_transactions.specs.Holds.{ReadPost};
 
-use crate::amounts::{Amounts, order_amounts};
-use crate::order_check_reads::{OrderCheckFacts, check_facts};
+use crate::amounts::{Amounts, estimate_amounts};
+use crate::order_check_reads::{OrderCheckFacts, order_check_facts};
 use brk_money::{CallFault, TaxRate, Wide};
 use brk_ref::AccountRow;
 use brk_ref_orders::Order;
@@ -56,7 +56,8 @@ fn facts_with_account(
     }
 }
 
-fn facts_for<S: Alter>(
+// Fails with `Store` also if the account's customer does not exist, and as `estimate_amounts` does.
+fn estimate_facts_of_account<S: Alter>(
     alloc: Global,
     store: &mut Store<S>,
     order: &Order,
@@ -65,8 +66,8 @@ fn facts_for<S: Alter>(
     ensures { ReadPost S.Store store.old store.new result (λ found t. EstimateFactsMatchIfAccountOfOrder t order.now account.now found) }
 {
     let customer = require_customer(store, account.account.customer)?;
-    let tested = check_facts(alloc, store, order, &customer)?;
-    let amounts = order_amounts(alloc, store, account, order)?;
+    let tested = order_check_facts(alloc, store, order, &customer)?;
+    let amounts = estimate_amounts(alloc, store, account, order)?;
     Ok(facts_with_account(account, tested, amounts))
 }
 
@@ -80,7 +81,7 @@ pub(crate) fn estimate_facts<S: Alter>(
 {
     match store.account(order.account)? {
         Some(account) => {
-            let found = facts_for(alloc, store, order, &account)?;
+            let found = estimate_facts_of_account(alloc, store, order, &account)?;
             Ok(found)
         }
         None => Ok(facts_without_account()),

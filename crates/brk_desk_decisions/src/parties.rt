@@ -6,17 +6,17 @@ ghost use Rattle.brk_model.specs.Joins.{account_row_with_id};
 ghost use Rattle.brk_store_transactions.specs.Holds.{ReadPost};
 ghost use Rattle.brk_ref.specs.Records.{abstract_account_row};
 
-use crate::amounts::tax_rate_sum;
+use crate::amounts::require_tax_rate_sum;
 use brk_money::{CallFault, Id};
 use brk_ref::AccountRow;
 use brk_store::Store;
-use brk_store_required::{require_account, require_broker_totals, require_customer};
+use brk_store_required::{require_account, require_broker, require_customer};
 use brk_trade::TradeParties;
 use sqlite::Alter;
 use std::alloc::Global;
 
 // Fails with `Store` also if the customer, one of the customer's taxes or the broker does not
-// exist, the tax rates total more than the greatest rate, or a total of the broker is out of range.
+// exist, or the tax rates total more than the greatest rate.
 fn parties_of_row<S: Alter>(
     alloc: Global,
     store: &mut Store<S>,
@@ -26,8 +26,8 @@ fn parties_of_row<S: Alter>(
 {
     let account = &row.account;
     let customer = require_customer(store, account.customer)?;
-    let rates = tax_rate_sum(alloc, store, account.customer)?;
-    let broker = require_broker_totals(store, account.broker)?;
+    let rates = require_tax_rate_sum(alloc, store, account.customer)?;
+    let broker = require_broker(store, account.broker)?;
     Ok(TradeParties {
         account: row,
         broker,

@@ -4,7 +4,7 @@ ghost use Rattle.brk_trade_plans.specs.Commands.{command_adding_record};
 ghost use Rattle.brk_trade_theorems.specs.Decisions.{DecidesCommand};
 ghost use Rattle.brk_store_transactions.specs.Holds.{ReadPost};
 
-use crate::finding::reference_facts;
+use crate::reference_finding::reference_facts;
 use brk_money::{CallFault, Planned, Stamp};
 use brk_store::Store;
 use brk_trade::{Plan, Reference, plan_reference};

@@ -54,7 +54,7 @@ fn plan_result_over_lots<S: Alter>(
 }
 
 // If the trade does not exist, `found` is `None`, and the refusal is `NoTrade` (5).
-fn result_of_facts<S: Alter>(
+fn plan_result_from_facts<S: Alter>(
     alloc: Global,
     store: &mut Store<S>,
     found: Option<ResultPlanFacts>,
@@ -100,5 +100,5 @@ pub fn decide_result<S: Alter>(
     let _moment = now.get();
     let last = store.last_stamp()?;
     let found = facts_of_result(alloc, store, completion.trade)?;
-    result_of_facts(alloc, store, found, completion.price, last, now)
+    plan_result_from_facts(alloc, store, found, completion.price, last, now)
 }

@@ -1,4 +1,5 @@
-//! Reads of the facts that decide on a result.
+//! Reads of the facts that decide on a result: the trade with its parties, its security with a rate,
+//! and what its posting needs.
 
 ghost use Rattle.std.specs.Prelude.{◌<◌, IfOk, IfSome};
 ghost use Rattle.brk_desk_decisions.specs.ResultFactReads.{AreResultFactsOfTradeWithId, AreResultFactsOfTrade, SecurityFactsMatchTables, PostingFactsMatchTables};
@@ -70,6 +71,7 @@ fn trade_facts<S: Alter>(
     })
 }
 
+// Returns `None` if the trade does not exist.
 pub(crate) fn facts_of_result<S: Alter>(
     alloc: Global,
     store: &mut Store<S>,

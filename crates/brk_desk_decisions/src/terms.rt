@@ -1,5 +1,5 @@
-//! Reads of permissions and taxes, and of the facts that decide on commands that add permissions,
-//! charges, commission bands and taxes of customers.
+//! Reads of the facts that decide on commands that add permissions, charges, commission bands and
+//! taxes of customers; and the sum of the tax rates of a customer.
 
 ghost use Rattle.std.specs.Prelude.{◌≡◌, ◌==◌, ◌≤◌, SomeIff, Some, filter, map};
 ghost use Rattle.brk_trade_theorems.specs.Found.{CustomerTaxFactsMatchTables};
@@ -10,7 +10,7 @@ ghost use Rattle.brk_model.specs.Limits.{greatest_tax_rate};
 ghost use Rattle.brk_ref.specs.Records.{abstract_band, abstract_tax_rate};
 ghost use Rattle.brk_store_transactions.specs.Holds.{ReadPost};
 
-use crate::finding::{NO_REFERENCE_FACTS, account_exists, customer_exists};
+use crate::reference_finding::{NO_REFERENCE_FACTS, account_exists, customer_exists};
 use brk_money::{CallFault, Id, TaxRate};
 use brk_ref::{Band, Charge, CustomerTax, Permission, Tax, TaxId, overlaps, tax_sum};
 use brk_store::Store;
@@ -64,9 +64,9 @@ fn read_taxes<S: Alter>(
     Ok(taxes)
 }
 
-// The sum is in hundred-thousandths. Fails with `Store` also if one of the customer's taxes does
-// not exist.
-pub(crate) fn limited_tax_sum<S: Alter>(
+// Returns the sum of a customer's tax rates, in hundred-thousandths, or `None` if it exceeds the
+// greatest rate. Fails with `Store` also if one of the customer's taxes does not exist.
+pub(crate) fn checked_tax_rate_sum<S: Alter>(
     alloc: Global,
     store: &mut Store<S>,
     customer: Id,
@@ -123,7 +123,7 @@ pub(crate) fn band_facts<S: Alter>(
 }
 
 // Fails with `Store` also if a tax that the customer already pays does not exist.
-pub(crate) fn taxpayer_facts<S: Alter>(
+pub(crate) fn customer_tax_facts<S: Alter>(
     alloc: Global,
     store: &mut Store<S>,
     pays: &CustomerTax,
@@ -133,7 +133,7 @@ pub(crate) fn taxpayer_facts<S: Alter>(
     let customer = customer_exists(store, pays.customer)?;
     let rate = stored_rate(store, pays.tax)?;
     let same_id = pays_tax(store, pays.customer, pays.tax)?;
-    let rates = limited_tax_sum(alloc, store, pays.customer)?;
+    let rates = checked_tax_rate_sum(alloc, store, pays.customer)?;
     Ok(ReferenceFacts {
         same_id,
         customer,

@@ -1,4 +1,5 @@
-//! Decisions on text updates.
+//! Decisions on text updates, and the facts for them by the kind of update, which `update_finding`
+//! reads.
 
 ghost use Rattle.brk_trade_theorems.specs.Decisions.{DecidesCommand};
 ghost use Rattle.brk_ref_orders.specs.Records.{text_update_command};

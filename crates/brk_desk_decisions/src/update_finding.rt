@@ -99,7 +99,8 @@ pub(crate) fn cash_type_facts<S: Alter>(
     Ok(Some(TextUpdate::CashTypes(settled)))
 }
 
-fn symbol_name<S: Alter>(store: &mut Store<S>, symbol: &Symbol) -> Result<Option<Name>, CallFault>
+// Returns `None` if no security has the symbol.
+fn security_name<S: Alter>(store: &mut Store<S>, symbol: &Symbol) -> Result<Option<Name>, CallFault>
     ensures { ReadPost S.Store store.old store.new result (λ name t. MatchOption name (is_none (security_row_with_symbol t symbol.now)
         ≡ true) (SecurityHasName t symbol.now)) }
 {
@@ -117,7 +118,7 @@ pub(crate) fn cash_name_facts<S: Alter>(
 ) -> Result<Option<TextUpdate>, CallFault>
     ensures { ReadPost S.Store store.old store.new result (λ found t. UpdateFactsMatchTables t (update.CashNames symbol.now span) found) }
 {
-    let Some(name) = symbol_name(store, symbol)? else {
+    let Some(name) = security_name(store, symbol)? else {
         return Ok(None);
     };
     let paid = read_cash_names(alloc, store, symbol, span)?;

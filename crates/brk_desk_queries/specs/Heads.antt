@@ -5,9 +5,8 @@ use Rattle.brk_model.specs.Joins.{account_row_with_id}
 use Rattle.brk_model.specs.PositionView.{market_value_of_account_row}
 use Rattle.brk_model.specs.Tables.{AccountRow, Tables}
 
--- `Some head`: the account with the id `account` exists in the tables `t`, and `head` has its name,
--- its opening balance and the market value of its holdings at last prices, both in cents. `None`:
--- this account does not exist.
+-- `Some head`: `head` has the account's name, opening balance and market value of holdings at last
+-- prices, in cents, from the tables `t`. `None`: the account does not exist.
 abbrev pub IsStatementHeadOfAccount : ℕ → Option Head → Tables → Type 0
 IsStatementHeadOfAccount account None t = account_row_with_id t account ≡ None
 IsStatementHeadOfAccount account (Some head) t =

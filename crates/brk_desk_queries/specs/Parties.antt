@@ -7,9 +7,8 @@ use Rattle.brk_model.specs.Tables.{AccountRow, Tables}
 use Rattle.brk_view_rows.specs.declared.statuses.AccountStatus.{AccountStatus}
 use Rattle.brk_view_rows.specs.declared.statuses.TradeStatus.{TradeStatus}
 
--- The customer of the account `a` exists in the tables `t`, and `status` has the last name and the
--- first name of this customer, the name of the broker of the account (empty if the broker does not
--- exist), and the trades `trades`.
+-- `status` has the last and first name of the customer of the account `a`, who exists in the tables
+-- `t`, the name of its broker (empty if it does not exist), and the trades `trades`.
 abbrev pub IsAccountStatusWithTrades : AccountRow → Vec TradeStatus → AccountStatus → Tables → Type 0
 IsAccountStatusWithTrades a trades status t =
     (c : Customer) × (Some c ≡ find (λ c. c.id == a.customer) t.customers) × (status.last_name ≡ c.last_name) × (status.first_name ≡ c.first_name)

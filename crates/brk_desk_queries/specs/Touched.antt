@@ -8,15 +8,13 @@ use Rattle.brk_view_rows.specs.Lots.{is_earlier_lot_change, stamped_lot_change}
 use Rattle.brk_view_rows.specs.declared.touched_lots.LotTouch.{LotTouch}
 use Rattle.brk_view_rows.specs.declared.touched_lots.TouchedLots.{TouchedLots}
 
--- The stamp of the last status of the trade with the id `trade`, as the first TRADE row of this id,
--- in the order of the table, records it (T_DTS), in milliseconds since 1970-01-01 UTC, or 0 if
--- there is no such row.
+-- The stamp of the last status of the trade, from the first TRADE row with its id (T_DTS), in
+-- milliseconds since 1970-01-01 UTC, or 0 without such a row.
 abbrev pub last_status_stamp : Tables → ℕ → ℕ
 last_status_stamp t trade = option_map_or (λ r. r.stamp) (trade_row_with_id t trade) 0
 
--- All changes of the lot with the id `lot`, one for each row of HOLDING_HISTORY with this lot, in
--- the order of the table, each with the stamp of the last status of the trade that made the change,
--- or 0 if that trade does not exist.
+-- The changes of the lot with the id `lot`, one for each row of HOLDING_HISTORY with it, in order,
+-- each with the stamp of the last status of its trade, or 0 if that trade does not exist.
 abbrev pub stamped_changes_of_lot : Tables → ℕ → List LotTouch
 stamped_changes_of_lot t lot = map (stamped_lot_change t) (filter (λ r. r.lot == lot) t.holding_history)
 

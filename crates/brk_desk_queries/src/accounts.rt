@@ -52,7 +52,7 @@ fn read_worths<S: Alter>(
 /// Returns the view of the balances and the market values of a customer's accounts, in cents,
 /// sorted by market value, then by id, ascending. Refuses an unknown customer with `NoCustomer`.
 /// Fails with `Store` also if a held symbol has no last price or a sum overflows.
-pub fn values_view<S: Alter>(
+pub fn customer_view<S: Alter>(
     alloc: Global,
     store: &mut Store<S>,
     customer: Id,
@@ -69,9 +69,9 @@ pub fn values_view<S: Alter>(
     }
 }
 
-/// Returns the view of `values_view` for the customer with a tax id, and refuses and
+/// Returns the view of `customer_view` for the customer with a tax id, and refuses and
 /// fails as it does.
-pub fn tax_id_view<S: Alter>(
+pub fn customer_by_tax_id_view<S: Alter>(
     alloc: Global,
     store: &mut Store<S>,
     tax_id: &TaxId,

@@ -13,11 +13,11 @@ pub mod statuses;
 pub mod touched_lots;
 pub mod volumes;
 
-pub use accounts::{tax_id_view, values_view};
-pub use lookups::{view_by_account, view_by_ids, view_by_symbol};
+pub use accounts::{customer_by_tax_id_view, customer_view};
+pub use lookups::{account_trades_view, symbol_trades_view, trades_view};
 pub use orders::submitted_view;
 pub use recents::recent_view;
 pub use statement_head::{Head, account_head};
 pub use statuses::status_view;
-pub use touched_lots::touched_view;
+pub use touched_lots::touched_lots_view;
 pub use volumes::volume_view;

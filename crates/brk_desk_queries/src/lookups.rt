@@ -13,13 +13,14 @@ use brk_ref::{Span, Symbol, TradeRow};
 use brk_store::{Store, read_trades_by_ids};
 use brk_view_rows::{
     LookedUp, NamedTrades, View, create_looked_up_trade, lookup_account, lookup_ids, lookup_symbol,
-    oldest_first,
+    sort_oldest_first,
 };
 use sqlite::Alter;
 use std::alloc::Global;
 
-// The settlement and the cash row may be missing. The result is specified only if the tables are
-// those of a base that satisfies the books invariant and the audit invariant.
+// Adds to `trade` its settlement and its cash row, each of which may be missing, and its history.
+// The result is specified only if the tables represent a base that satisfies the books invariant
+// and the audit invariant.
 fn look_up_trade<S: Alter>(
     alloc: Global,
     store: &mut Store<S>,
@@ -54,7 +55,7 @@ fn look_up_trades<S: Alter>(
 /// Returns the view of the trades with the ids in `trades`, sorted by the stamp of the last status,
 /// then by id, ascending, each with its settlement and its cash row, if they exist, and its
 /// history. Refuses an unknown id with `NoTrade`.
-pub fn view_by_ids<S: Alter>(
+pub fn trades_view<S: Alter>(
     alloc: Global,
     store: &mut Store<S>,
     trades: &NamedTrades,
@@ -66,15 +67,15 @@ pub fn view_by_ids<S: Alter>(
     let Some(named) = read_trades_by_ids(alloc, store, trades.trades.ids())? else {
         return Ok(Err(Refusal::NoTrade));
     };
-    let ordered = oldest_first(alloc, named)?;
+    let ordered = sort_oldest_first(alloc, named)?;
     let found = look_up_trades(alloc, store, ordered)?;
     Ok(Ok(lookup_ids(found)))
 }
 
 /// Returns the view of the first 20 trades of an account whose last statuses have stamps in `span`,
-/// both ends included, with the rows and in the order of `view_by_ids`. Refuses an
+/// both ends included, with the rows and in the order of `trades_view`. Refuses an
 /// unknown account with `NoAccount`.
-pub fn view_by_account<S: Alter>(
+pub fn account_trades_view<S: Alter>(
     alloc: Global,
     store: &mut Store<S>,
     account: Id,
@@ -91,9 +92,9 @@ pub fn view_by_account<S: Alter>(
 }
 
 /// Returns the view of the first 20 trades of a symbol whose last statuses have stamps in `span`,
-/// both ends included, with the rows and in the order of `view_by_ids`. Refuses an
+/// both ends included, with the rows and in the order of `trades_view`. Refuses an
 /// unknown symbol with `NoSecurity`.
-pub fn view_by_symbol<S: Alter>(
+pub fn symbol_trades_view<S: Alter>(
     alloc: Global,
     store: &mut Store<S>,
     symbol: &Symbol,

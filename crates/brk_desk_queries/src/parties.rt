@@ -1,5 +1,5 @@
-//! The parties of an account: its customer and its broker. If one of them does not exist, the fault
-//! is `Store`.
+//! The names of an account's customer and broker, added to its trades for the view of `statuses`.
+//! If one of the two does not exist, the fault is `Store`.
 
 ghost use Rattle.std.specs.Prelude.{◌≡◌};
 ghost use Rattle.brk_desk_queries.specs.Parties.{IsAccountStatusWithTrades};
@@ -14,7 +14,7 @@ use brk_store_required::require_customer;
 use brk_view_rows::{AccountStatus, TradeStatus};
 use sqlite::Alter;
 
-fn require_name<S: Alter>(store: &mut Store<S>, id: Id) -> Result<Name, CallFault>
+fn require_broker_name<S: Alter>(store: &mut Store<S>, id: Id) -> Result<Name, CallFault>
     ensures { ReadPost S.Store store.old store.new result (λ name t. name ≡ broker_name_with_id t id) }
 {
     match store.broker(id)? {
@@ -23,6 +23,7 @@ fn require_name<S: Alter>(store: &mut Store<S>, id: Id) -> Result<Name, CallFaul
     }
 }
 
+// Adds to `trades` the names of the account's customer and broker.
 pub(crate) fn account_status<S: Alter>(
     store: &mut Store<S>,
     row: &AccountRow,
@@ -31,7 +32,7 @@ pub(crate) fn account_status<S: Alter>(
     ensures { ReadPost S.Store store.old store.new result (IsAccountStatusWithTrades (abstract_account_row row.now) trades) }
 {
     let customer = require_customer(store, row.account.customer)?;
-    let broker = require_name(store, row.account.broker)?;
+    let broker = require_broker_name(store, row.account.broker)?;
     Ok(AccountStatus {
         last_name: customer.last_name,
         first_name: customer.first_name,

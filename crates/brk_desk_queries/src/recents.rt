@@ -24,6 +24,7 @@ fn append_history_rows(history: &mut Vec<HistoryRow>, rows: &[HistoryRow]) -> Re
     Ok(())
 }
 
+// Returns the last ten trades, and the status changes of all of them.
 fn recent_trades<S: Alter>(
     alloc: Global,
     store: &mut Store<S>,

@@ -17,7 +17,7 @@ use sqlite::Alter;
 use std::alloc::{AllocError, Global};
 
 // Fails with `Store` also if the security does not exist.
-fn trade_status_of<S: Alter>(
+fn trade_with_security<S: Alter>(
     store: &mut Store<S>,
     trade: TradeRow,
 ) -> Result<TradeStatus, CallFault>
@@ -36,6 +36,7 @@ fn is_trade_of_symbol(status: &TradeStatus, symbol: &Symbol) -> bool
     status.trade.symbol.as_str() == symbol.as_str()
 }
 
+// Returns the security that a trade of `statuses` has, if one has the symbol. Reads no table.
 fn security_of_symbol(
     statuses: &[TradeStatus],
     symbol: &Symbol,
@@ -53,8 +54,9 @@ fn security_of_symbol(
     Ok(Some(security))
 }
 
-// Reads the security of each symbol once.
-fn trade_statuses<S: Alter>(
+// Returns the last fifty trades of an account, each with its security. Reads the security of each
+// symbol once.
+fn fifty_trades_with_securities<S: Alter>(
     alloc: Global,
     store: &mut Store<S>,
     account: Id,
@@ -68,7 +70,7 @@ fn trade_statuses<S: Alter>(
         if let Some(security) = security_of_symbol(&statuses, &trade.symbol)? {
             statuses.push(TradeStatus { trade, security })?;
         } else {
-            let status = trade_status_of(store, trade)?;
+            let status = trade_with_security(store, trade)?;
             statuses.push(status)?;
         }
     }
@@ -90,7 +92,7 @@ pub fn status_view<S: Alter>(
     let Some(row) = store.account(account)? else {
         return Ok(Err(Refusal::NoAccount));
     };
-    let trades = trade_statuses(alloc, store, account)?;
+    let trades = fifty_trades_with_securities(alloc, store, account)?;
     let found = account_status(store, &row, trades)?;
     Ok(Ok(status(found)))
 }

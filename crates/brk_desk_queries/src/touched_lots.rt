@@ -23,8 +23,9 @@ fn require_stamp<S: Alter>(store: &mut Store<S>, trade: Id) -> Result<Stamp, Cal
     }
 }
 
-// A change has the stamp of the last status of the trade that made it.
-fn lot_touches<S: Alter>(
+// Returns the changes of a lot, each with the stamp of the last status of the trade that made it.
+// Fails with `Store` also if one of these trades does not exist.
+fn stamped_lot_changes<S: Alter>(
     alloc: Global,
     store: &mut Store<S>,
     lot: Id,
@@ -44,8 +45,9 @@ fn lot_touches<S: Alter>(
     Ok(touches)
 }
 
-// Merges lot by lot, so that no more than 20 changes are kept.
-fn lots_touched<S: Alter>(
+// Returns the first 20 changes, by any trade, of the lots that `trade` touched. Merges lot by lot,
+// so that no more than 20 changes are kept.
+fn touched_lots_of_trade<S: Alter>(
     alloc: Global,
     store: &mut Store<S>,
     trade: Id,
@@ -55,7 +57,7 @@ fn lots_touched<S: Alter>(
     let mut rest = store.lot_changes_by_trade(alloc, trade)?;
     let mut kept = Vec::new(alloc);
     while let Some(change) = rest.pop() {
-        let touches = lot_touches(alloc, store, change.lot)?;
+        let touches = stamped_lot_changes(alloc, store, change.lot)?;
         merge_touches(&mut kept, touches)?;
     }
     Ok(TouchedLots {
@@ -69,7 +71,7 @@ fn lots_touched<S: Alter>(
 /// has its id and the first 20 changes of these lots, by any trade, sorted by stamp, then by lot,
 /// ascending; it has no record if there is no such trade. Refuses an unknown account with
 /// `NoAccount`. Fails with `Store` also if a trade that made one of the changes does not exist.
-pub fn touched_view<S: Alter>(
+pub fn touched_lots_view<S: Alter>(
     alloc: Global,
     store: &mut Store<S>,
     account: Id,
@@ -83,6 +85,6 @@ pub fn touched_view<S: Alter>(
     let Some(trade) = store.first_trade_of_account_since(account, first)? else {
         return Ok(Ok(lookup_lots(None)));
     };
-    let lots = lots_touched(alloc, store, trade.id)?;
+    let lots = touched_lots_of_trade(alloc, store, trade.id)?;
     Ok(Ok(lookup_lots(Some(lots))))
 }

@@ -31,7 +31,8 @@ fn is_in_sector<S: Alter>(
     }
 }
 
-fn append_request<S: Alter>(
+// Appends a copy of `row` if it is a request of `broker` for a security of the sector.
+fn append_sector_request<S: Alter>(
     store: &mut Store<S>,
     sector: &Name,
     broker: Id,
@@ -71,7 +72,7 @@ fn sector_requests<S: Alter>(
 {
     let mut found = Vec::new(alloc);
     for row in requests {
-        append_request(store, sector, broker, row, &mut found)?;
+        append_sector_request(store, sector, broker, row, &mut found)?;
     }
     Ok(found)
 }
@@ -103,7 +104,7 @@ fn append_volume<S: Alter>(
     Ok(())
 }
 
-fn append_volumes<S: Alter>(
+fn append_volumes_of_name<S: Alter>(
     alloc: Global,
     store: &mut Store<S>,
     sector: &Name,
@@ -121,7 +122,8 @@ fn append_volumes<S: Alter>(
     Ok(())
 }
 
-// Reads the pending requests once for all brokers.
+// Returns the volumes of the brokers with the names. Reads the pending requests once for all
+// brokers.
 fn named_volumes<S: Alter>(
     alloc: Global,
     store: &mut Store<S>,
@@ -134,7 +136,7 @@ fn named_volumes<S: Alter>(
     let requests = store.all_trade_requests(alloc)?;
     let mut found = Vec::new(alloc);
     for name in names {
-        append_volumes(alloc, store, sector, &requests, name, &mut found)?;
+        append_volumes_of_name(alloc, store, sector, &requests, name, &mut found)?;
     }
     Ok(found)
 }

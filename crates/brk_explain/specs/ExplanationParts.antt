@@ -14,26 +14,22 @@ use Rattle.brk_explain_rows.specs.declared.broker_details.BrokerDetails.{BrokerD
 use Rattle.brk_report_lines.specs.Written.{FailsWithinFirstLines}
 use Rattle.brk_io.specs.declared.report_fault.LinesFault.{LinesFault}
 
--- The result of writing `lines`, the first lines of a longer text. `Ok`: exactly `lines` were
--- written, which is vacuous if the writer's content before is unknown, and the returned count is
--- `n`. `Err`: writing them failed as `FailsWithinFirstLines` specifies.
+-- The result of writing `lines`, the first lines of a longer text. `Ok`: exactly these were written
+-- (vacuous if the content before is unknown), and the count is `n`. `Err`: `FailsWithinFirstLines`.
 abbrev pub WritesCountedLines : List Text → ℕ → Option Text → Option Text → Result ℕ LinesFault → Type 0
 WritesCountedLines lines n old new (Ok count) = Appends old new (text_of_lines lines) × (count ≡ n)
 WritesCountedLines lines n old new (Err e) = FailsWithinFirstLines lines old new e
 
 -- The lines of the cash rows of `account` with stamps from 1970-01-01 to 9999-12-31, both included,
--- sorted by stamp, ascending, each with the balance after it; the balance before the first one is
--- `opening`, in cents.
+-- sorted by stamp, each with the balance after it; `opening` is the balance before, in cents.
 abbrev pub account_cash_lines : Tables → ℕ → ℤ → List Text
 account_cash_lines t account opening = cash_posting_lines opening (account_cash_rows_by_stamp t account)
 
--- A line for each lot of `account` in the tables `t`, sorted by symbol, then by opening stamp, both
--- ascending.
+-- A line for each lot of `account` in the tables `t`, sorted by symbol, then by opening stamp.
 abbrev pub account_lot_lines : Tables → ℕ → List Text
 account_lot_lines t account = map open_lot_line (holding_rows_of_account t account)
 
--- All lines of the explanation of `account`, from its row and its holdings in `details` and from
--- its cash rows and lots in the tables `t`.
+-- All lines of the explanation of `account`, from `details` and from its cash rows and lots in `t`.
 abbrev pub all_account_lines : Tables → ℕ → AccountDetails → List Text
 all_account_lines t account details =
     account_header_lines (abstract_account_row details.account)
@@ -48,8 +44,7 @@ all_account_lines t account details =
 abbrev pub broker_trade_lines : Tables → ℕ → List Text
 broker_trade_lines t broker = trade_commission_lines (completed_trades_of_broker t broker)
 
--- All lines of the explanation of `broker`, from its row and its number of accounts in `details`
--- and from the completed trades of its accounts (`completed_trades_of_broker`) in the tables `t`.
+-- All lines of the explanation of `broker`, from `details` and its accounts' completed trades.
 abbrev pub all_broker_lines : Tables → ℕ → BrokerDetails → List Text
 all_broker_lines t broker details =
     broker_header_lines (abstract_broker_row details.broker)

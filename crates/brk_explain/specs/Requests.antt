@@ -3,8 +3,7 @@ use Rattle.brk_model_explain.specs.Explain.{ExplainRequest, TradeOf, AccountOf, 
 use Rattle.brk_explain.specs.declared.parse.ExplainRequest as asked
 use Rattle.brk_explain.specs.declared.parse.ExplainRequest.TheVariants as form
 
--- The model's request for an explanation that has the form (trade, account, holding or broker), the
--- ids and the symbol of the program's request.
+-- The model's request for an explanation that the program's request represents.
 abbrev pub abstract_explain_request : asked.ExplainRequest → ExplainRequest
 abstract_explain_request (form.Trade id) = TradeOf id
 abstract_explain_request (form.Account id) = AccountOf id

@@ -10,9 +10,9 @@ ghost use Rattle.brk_report_lines.specs.Written.{WritesLines};
 use crate::parse::ExplainRequest;
 use crate::sections::{write_commissions, write_open_lots, write_postings};
 use brk_desk::Desk;
-use brk_explain_lines::{end_text, explained_trade, header_text, lots_head_text};
+use brk_explain_lines::{account_end_text, header_text, lots_head_text, trade_explanation_text};
 use brk_explain_rows::{AccountDetails, BrokerDetails};
-use brk_explain_sums::{broker_end_text, broker_head, explained_holding};
+use brk_explain_sums::{broker_end_text, broker_head, holding_explanation_text};
 use brk_money::{Id, Refusal};
 use brk_ref::Symbol;
 use brk_report_lines::{LinesFault, ReportFault, write_lines};
@@ -34,7 +34,7 @@ fn write_trade<W: Write, S: Alter>(
         Ok(None) => return Err(ReportFault::Refused(Refusal::NoTrade)),
         Err(fault) => return Err(ReportFault::Desk(fault.into())),
     };
-    write_lines(writer, explained_trade(alloc, &details))?;
+    write_lines(writer, trade_explanation_text(alloc, &details))?;
     Ok(())
 }
 
@@ -55,7 +55,10 @@ fn write_account_lines<W: Write, S: Alter>(
     let cash = write_postings(alloc, desk, account, row.account.opening, writer)?;
     write_lines(writer, lots_head_text(alloc, row))?;
     let lots = write_open_lots(alloc, desk, account, writer)?;
-    write_lines(writer, end_text(alloc, row, &details.held, cash, lots))
+    write_lines(
+        writer,
+        account_end_text(alloc, row, &details.held, cash, lots),
+    )
 }
 
 fn write_account<W: Write, S: Alter>(
@@ -91,7 +94,7 @@ fn write_holding<W: Write, S: Alter>(
         Ok(Err(refusal)) => return Err(ReportFault::Refused(refusal)),
         Err(fault) => return Err(ReportFault::Desk(fault.into())),
     };
-    write_lines(writer, explained_holding(alloc, &details))?;
+    write_lines(writer, holding_explanation_text(alloc, &details))?;
     Ok(())
 }
 

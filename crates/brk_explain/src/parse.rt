@@ -35,7 +35,7 @@ fn parse_single_id(words: &[&[u8]]) -> Result<Id, Refusal>
     }
 }
 
-fn trade_asked(words: &[&[u8]]) -> Result<ExplainRequest, Refusal>
+fn parse_trade_request(words: &[&[u8]]) -> Result<ExplainRequest, Refusal>
     ensures { ParsesAs abstract_explain_request result (read_and_wrap model.TradeOf model.read_single_id (texts_of_fields words.now)) }
 {
     match parse_single_id(words) {
@@ -44,7 +44,7 @@ fn trade_asked(words: &[&[u8]]) -> Result<ExplainRequest, Refusal>
     }
 }
 
-fn account_asked(words: &[&[u8]]) -> Result<ExplainRequest, Refusal>
+fn parse_account_request(words: &[&[u8]]) -> Result<ExplainRequest, Refusal>
     ensures { ParsesAs abstract_explain_request result (read_and_wrap model.AccountOf model.read_single_id (texts_of_fields words.now)) }
 {
     match parse_single_id(words) {
@@ -53,7 +53,7 @@ fn account_asked(words: &[&[u8]]) -> Result<ExplainRequest, Refusal>
     }
 }
 
-fn broker_asked(words: &[&[u8]]) -> Result<ExplainRequest, Refusal>
+fn parse_broker_request(words: &[&[u8]]) -> Result<ExplainRequest, Refusal>
     ensures { ParsesAs abstract_explain_request result (read_and_wrap model.BrokerOf model.read_single_id (texts_of_fields words.now)) }
 {
     match parse_single_id(words) {
@@ -62,7 +62,7 @@ fn broker_asked(words: &[&[u8]]) -> Result<ExplainRequest, Refusal>
     }
 }
 
-fn holding_asked(alloc: Global, words: &[&[u8]]) -> Planned<ExplainRequest, AllocError>
+fn parse_holding_request(alloc: Global, words: &[&[u8]]) -> Planned<ExplainRequest, AllocError>
     ensures { IfOk result (λ read. ParsesAs abstract_explain_request read (model.read_holding_request (texts_of_fields words.now))) }
 {
     let [account, symbol] = words else {
@@ -79,7 +79,7 @@ fn holding_asked(alloc: Global, words: &[&[u8]]) -> Planned<ExplainRequest, Allo
 
 // `form` is the first word, `words` has the others.
 #[tactic(auto, unfolding(brk_model_explain::specs::Explain::read_explain_request))]
-fn request_of_kind(
+fn parse_request_of_kind(
     alloc: Global,
     form: &[u8],
     words: &[&[u8]],
@@ -87,16 +87,16 @@ fn request_of_kind(
     ensures { IfOk result (λ read. ParsesAs abstract_explain_request read (model.read_explain_request (form.now ∷ texts_of_fields words.now))) }
 {
     if form == b"trade".as_slice() {
-        return Ok(trade_asked(words));
+        return Ok(parse_trade_request(words));
     }
     if form == b"account".as_slice() {
-        return Ok(account_asked(words));
+        return Ok(parse_account_request(words));
     }
     if form == b"holding".as_slice() {
-        return holding_asked(alloc, words);
+        return parse_holding_request(alloc, words);
     }
     if form == b"broker".as_slice() {
-        return Ok(broker_asked(words));
+        return Ok(parse_broker_request(words));
     }
     Ok(Err(Refusal::BadText))
 }
@@ -110,5 +110,5 @@ pub fn parse_explain(alloc: Global, words: &[&[u8]]) -> Planned<ExplainRequest, 
     let [form, rest @ ..] = words else {
         return Ok(Err(Refusal::BadText));
     };
-    request_of_kind(alloc, form, rest)
+    parse_request_of_kind(alloc, form, rest)
 }

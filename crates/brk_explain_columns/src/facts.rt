@@ -1,6 +1,7 @@
-//! Lines of a label and a value: the label in 15 places, a space, then a text, or a number that is
-//! right-aligned in 22 places. Longer ones are written whole. The functions fail with `Memory`
-//! only, and may then have appended a part.
+//! Facts, which are lines of a label and a value: the label in 15 places, a space, then a text, or
+//! a number that is right-aligned in 22 places. The functions `label_..` append them without their
+//! line feeds. Longer labels and values are written whole. The functions fail with `Memory` only,
+//! and may then have appended a part.
 
 ghost use Rattle.std.specs.Fmt.{signed_decimal};
 ghost use Rattle.std.specs.Prelude.{◌≡◌, ◌++◌, ◌∷◌, [], OnOk};
@@ -23,6 +24,7 @@ pub fn put_label(out: &mut Vec<u8>, label: &str) -> Result<(), AllocError>
     Ok(())
 }
 
+/// Appends a label and a text, without a line feed.
 #[tactic(auto, unfolding(brk_model_explain::specs::Texts::labeled_text))]
 pub fn label_text(out: &mut Vec<u8>, label: &str, text: &[u8]) -> Result<(), AllocError>
     ensures { OnOk result (out.new.items ≡ out.old.items ++ texts.labeled_text label.now text.now) }
@@ -31,6 +33,7 @@ pub fn label_text(out: &mut Vec<u8>, label: &str, text: &[u8]) -> Result<(), All
     put_text(out, text)
 }
 
+/// Appends a label and a number, without a line feed.
 #[tactic(auto, unfolding(brk_model_explain::specs::Texts::labeled_number, brk_model_explain::specs::Texts::labeled_value))]
 pub fn label_number(out: &mut Vec<u8>, label: &str, n: u64) -> Result<(), AllocError>
     ensures { OnOk result (out.new.items ≡ out.old.items ++ texts.labeled_number label.now n) }
@@ -39,7 +42,7 @@ pub fn label_number(out: &mut Vec<u8>, label: &str, n: u64) -> Result<(), AllocE
     align_number(out, 22, n)
 }
 
-/// Writes the amount, given in cents, with two decimal places.
+/// Appends a label and an amount, given in cents, with two decimal places and without a line feed.
 #[tactic(auto, unfolding(brk_model_explain::specs::Texts::labeled_amount, brk_model_explain::specs::Texts::labeled_value))]
 pub fn label_amount(
     alloc: Global,

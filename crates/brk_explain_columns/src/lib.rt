@@ -4,7 +4,7 @@
 pub mod amounts;
 pub mod facts;
 pub mod pieces;
-pub mod starts;
+pub mod row_columns;
 pub mod timestamps;
 
 pub use amounts::{add_amounts, cents_of_wide, shares_value, subtract_amounts, wide_of_cents};
@@ -16,6 +16,6 @@ pub use pieces::{
     align_cents, align_integer, align_number, end_line, put_column, put_numbered, put_spaced_line,
     put_spaced_text, put_text, put_text_line, put_title_line,
 };
-pub use starts::{
-    align_amount, align_shares, align_value, put_dated_word, put_row_start, put_undated_row,
+pub use row_columns::{
+    align_amount, align_shares, align_value, put_dated_word, put_row_start, put_undated_row_start,
 };

@@ -47,7 +47,7 @@ pub fn put_spaced_line(out: &mut Vec<u8>, text: &[u8]) -> Result<(), AllocError>
     put_text_line(out, text)
 }
 
-pub fn put_number(out: &mut Vec<u8>, n: u64) -> Result<(), AllocError>
+pub fn put_decimal(out: &mut Vec<u8>, n: u64) -> Result<(), AllocError>
     ensures { OnOk result (out.new.items ≡ out.old.items ++ decimal n) }
 {
     let mut buffer = Buffer::new();
@@ -58,7 +58,7 @@ pub fn put_numbered(out: &mut Vec<u8>, text: &str, n: u64) -> Result<(), AllocEr
     ensures { OnOk result (out.new.items ≡ out.old.items ++ text.now ++ decimal n) }
 {
     put_text(out, text.as_bytes())?;
-    put_number(out, n)
+    put_decimal(out, n)
 }
 
 /// Appends the title of an explanation, such as `Trade 7, times in UTC`.

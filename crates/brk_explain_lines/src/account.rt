@@ -226,7 +226,7 @@ fn put_account_end(
 /// Returns the lines after the lots: the holdings in the order of `held`, and the totals. `cash`
 /// and `lots` are the numbers of the account's cash rows and lots. Fails with `Store` if an amount
 /// overflows.
-pub fn end_text(
+pub fn account_end_text(
     alloc: Global,
     row: &AccountRow,
     held: &[PricedHolding],

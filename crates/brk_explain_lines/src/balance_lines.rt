@@ -29,7 +29,7 @@ fn put_cash_row(out: &mut Vec<u8>, row: &Option<CashRow>) -> Result<(), AllocErr
     put_spaced_line(out, row.name.as_bytes())
 }
 
-/// Writes `none` and 0.00 for a trade without a cash row.
+/// Writes also the cash row of the trade. Writes `none` and 0.00 for a trade without one.
 #[tactic(auto, unfolding(brk_model_explain::specs::TradeLines::trade_balance_lines))]
 pub(crate) fn put_balance(
     alloc: Global,
@@ -54,7 +54,7 @@ pub(crate) fn put_balance(
 }
 
 // Counts the lots of which the trade closed shares, and the cash rows before it.
-fn put_trade_count(
+fn put_trade_counts(
     out: &mut Vec<u8>,
     statuses: usize,
     lots: usize,
@@ -77,7 +77,7 @@ pub(crate) fn put_trade_end(
     ensures { OnOk result (out.new.items
         ≡ out.old.items ++ text_of_lines (lines.counts_lines_of_trade (abstract_order_details order.now) (abstract_result_details details.now))) }
 {
-    put_trade_count(
+    put_trade_counts(
         out,
         order.statuses.len(),
         details.closings.len(),

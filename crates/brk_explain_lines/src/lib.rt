@@ -11,5 +11,5 @@ mod tax_lines;
 pub mod trade;
 mod waiting_lines;
 
-pub use account::{end_text, header_text, lots_head_text, open_lot_text, posting_text};
-pub use trade::explained_trade;
+pub use account::{account_end_text, header_text, lots_head_text, open_lot_text, posting_text};
+pub use trade::trade_explanation_text;

@@ -1,5 +1,5 @@
-//! The lines of the lots that a completed trade closed and opened, and of its gain. After an error
-//! a part of them may be appended.
+//! The lines of the price of a completed trade, of the lots that it closed and opened, and of its
+//! gain. After an error a part of them may be appended.
 
 ghost use Rattle.std.specs.Prelude.{◌≡◌, ◌++◌, OnOk, map, nat_abs, option_map};
 ghost use Rattle.brk_ref.specs.Rows.{abstract_lot_change_row, abstract_trade_row};
@@ -82,7 +82,7 @@ fn put_closings(
 }
 
 #[tactic(auto, unfolding(brk_model_explain::specs::TradeLines::opened_lot_line))]
-fn put_opening(
+fn put_opened_line(
     alloc: Global,
     out: &mut Vec<u8>,
     trade: &TradeRow,
@@ -109,12 +109,12 @@ fn put_opened_lot(
         ≡ out.old.items ++ text_of_lines (lines.opened_lot_lines (abstract_trade_row trade.now) price (option_map abstract_lot_change_row lot.now))) }
 {
     match lot {
-        Some(lot) => put_opening(alloc, out, trade, price, lot),
+        Some(lot) => put_opened_line(alloc, out, trade, price, lot),
         None => Ok(()),
     }
 }
 
-fn opened_count(details: &ResultDetails) -> u64
+fn opened_shares(details: &ResultDetails) -> u64
     ensures { result ≡ nat_abs (trades.opened_quantity (abstract_result_details details.now)) }
 {
     match &details.own_lot {
@@ -129,7 +129,7 @@ fn put_share_lines(out: &mut Vec<u8>, details: &ResultDetails) -> Result<(), Cal
 {
     let closed = total_closed_shares(&details.closings)?;
     put_number_fact(out, "Shares closed", closed)?;
-    Ok(put_number_fact(out, "Shares opened", opened_count(details))?)
+    Ok(put_number_fact(out, "Shares opened", opened_shares(details))?)
 }
 
 #[tactic(auto, unfolding(brk_model_explain::specs::TradeLines::realised_gain_lines))]
@@ -152,7 +152,7 @@ fn put_gain_lines(
 }
 
 #[tactic(auto, unfolding(brk_model_explain::specs::TradeLines::lot_and_gain_lines, brk_model_explain::specs::TradeLines::lot_closing_lines))]
-pub(crate) fn put_booking(
+pub(crate) fn put_lots_with_gain(
     alloc: Global,
     out: &mut Vec<u8>,
     order: &OrderDetails,

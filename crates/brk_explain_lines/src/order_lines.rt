@@ -44,7 +44,7 @@ fn put_account(out: &mut Vec<u8>, order: &OrderDetails) -> Result<(), AllocError
 }
 
 #[tactic(auto, unfolding(brk_model_explain::specs::TradeLines::title_and_party_lines))]
-fn put_party_lines(out: &mut Vec<u8>, order: &OrderDetails) -> Result<(), AllocError>
+fn put_title_with_parties(out: &mut Vec<u8>, order: &OrderDetails) -> Result<(), AllocError>
     ensures { OnOk result (out.new.items ≡ out.old.items ++ text_of_lines (lines.title_and_party_lines (abstract_order_details order.now))) }
 {
     let account = &order.account.account;
@@ -108,7 +108,7 @@ pub(crate) fn put_order_lines(
 ) -> Result<(), AllocError>
     ensures { OnOk result (out.new.items ≡ out.old.items ++ text_of_lines (lines.order_and_status_lines (abstract_order_details order.now))) }
 {
-    put_party_lines(out, order)?;
+    put_title_with_parties(out, order)?;
     put_order_terms(alloc, out, order)?;
     put_statuses(out, &order.statuses)
 }

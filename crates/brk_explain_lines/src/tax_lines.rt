@@ -132,6 +132,7 @@ fn put_commission_now(
     }
 }
 
+// Writes the band that applies now, and the commission by it.
 #[tactic(auto, unfolding(brk_model_explain::specs::TradeLines::band_and_commission_lines))]
 pub(crate) fn put_commission(
     alloc: Global,

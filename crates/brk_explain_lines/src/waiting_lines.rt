@@ -94,7 +94,7 @@ fn put_remarked(
     put_spaced_line(out, words.as_bytes())
 }
 
-fn put_count_line(out: &mut Vec<u8>, count: usize) -> Result<(), AllocError>
+fn put_status_count(out: &mut Vec<u8>, count: usize) -> Result<(), AllocError>
     ensures { OnOk result (out.new.items ≡ out.old.items ++ line_with_line_feed (codes "Statuses " ++ decimal count)) }
 {
     put_numbered(out, "Statuses ", count as u64)?;
@@ -124,5 +124,5 @@ pub(crate) fn put_uncompleted(
     put_event_line(out, trade)?;
     put_number_fact(out, "Shares moved", 0)?;
     put_amount_fact(alloc, out, "Cash moved", Wide::new(0))?;
-    put_count_line(out, order.statuses.len())
+    put_status_count(out, order.statuses.len())
 }

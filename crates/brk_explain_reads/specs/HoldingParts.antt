@@ -14,52 +14,45 @@ use Rattle.brk_explain_reads.specs.declared.holding_trades.TradeAndLot.{TradeAnd
 use Rattle.brk_explain_reads.specs.declared.holdings.QuantityAndPrice.{QuantityAndPrice}
 use Rattle.brk_explain_reads.specs.declared.lot_changes.OpeningAndLaterChanges.{OpeningAndLaterChanges}
 
--- `all` has the change with which the lot with the id `lot` was opened, or `None` if there is none,
--- and exactly the lot's changes by trades other than the one that opened it, in the order of the
--- table HOLDING_HISTORY, as the tables `t` record them.
+-- `all` has the change with which the lot was opened, or `None`, and exactly its changes by other
+-- trades than the one that opened it, in the order of HOLDING_HISTORY in the tables `t`.
 abbrev pub AreLotChangesByTradeId : Tables → ℕ → OpeningAndLaterChanges → Type 0
 AreLotChangesByTradeId t lot all =
     (option_map rows.abstract_lot_change_row all.opening ≡ opened_lot_row t lot)
     × (map abstract_priced_lot_change all.changes_by_others.items
     ≡ map (recorded_lot_change t) (filter (λ h. not (h.trade == lot)) (filter (λ h. h.lot == lot) t.holding_history)))
 
--- `all` has the change with which the lot with the id `lot` was opened, or `None` if there is none,
--- and exactly the lot's changes by trades other than the one that opened it, sorted by the stamps
--- of these other trades, ascending, as the tables `t` record them.
+-- `all` has the change with which the lot was opened, or `None`, and exactly its changes by other
+-- trades than the one that opened it, sorted by the stamps of these trades, as in the tables `t`.
 abbrev pub AreLotChangesByCompletion : Tables → ℕ → OpeningAndLaterChanges → Type 0
 AreLotChangesByCompletion t lot all =
     (option_map rows.abstract_lot_change_row all.opening ≡ opened_lot_row t lot)
     × (map abstract_priced_lot_change all.changes_by_others.items ≡ changes_of_lot_by_other_trades t lot)
 
--- `lot` if the first argument is a row, which is the row of HOLDING_HISTORY that records the
--- opening of a lot; `None` if the first argument is `None`.
+-- `lot` if the first argument is a row (of an opening in HOLDING_HISTORY), otherwise `None`.
 abbrev pub lot_if_opened : Option HoldingHistoryRow → Option LotDetails → Option LotDetails
 lot_if_opened None lot = None
 lot_if_opened (Some row) lot = lot
 
--- The lot that the trade with the id `trade` opened, with the lot's changes by other trades, sorted
--- by the stamps of these other trades, ascending, as the tables `t` record them, or `None` if the
--- trade opened no lot or does not exist.
+-- The lot that the trade opened, with its changes by other trades, sorted by the stamps of these
+-- trades, as the tables `t` record them, or `None` if the trade opened none or does not exist.
 abbrev pub lot_opened_by_trade : Tables → ℕ → Option LotDetails
 lot_opened_by_trade t trade = lot_if_opened (opened_lot_row t trade) (option_map (lot_with_changes_by_others t) (trade_row_with_id t trade))
 
 -- `one` has the row of the trade with the id `trade`, which exists in the tables `t`, and the lot
--- that this trade opened, with the lot's changes by other trades (`lot_opened_by_trade`), or `None`
--- if the trade opened none.
+-- that it opened with its changes by other trades (`lot_opened_by_trade`), or `None`.
 abbrev pub IsTradeWithLot : Tables → ℕ → TradeAndLot → Type 0
 IsTradeWithLot t trade one =
     (trade_row_with_id t trade ≡ Some (abstract_trade_row one.trade)) × (option_map abstract_lot_details one.lot ≡ lot_opened_by_trade t trade)
 
--- `held` has the completed trades of `account` in the security `symbol`, and the lots that they
--- opened with their changes by other trades, both sorted by the stamps at which the trades were
--- completed, ascending, as the tables `t` record them.
+-- `held` has the completed trades of `account` in `symbol`, and the lots that they opened with
+-- their changes by other trades, both sorted by completion stamp, as the tables `t` record them.
 abbrev pub AreTradesAndLotsOfHolding : Tables → ℕ → Text → TradesAndLots → Type 0
 AreTradesAndLotsOfHolding t account symbol held =
     (map abstract_trade_row held.done.items ≡ completed_trades_in_symbol t account symbol)
     × (map abstract_lot_details held.lots.items ≡ lots_opened_in_symbol t account symbol)
 
--- `held` has the quantity of the holding summary of `account` in the security `symbol`, in shares,
--- below 0 if they were sold short (0 if there is no summary), and the last price of this security,
--- in cents (0 if there is none), as the tables `t` record them.
+-- `held` has the account's holding of the security `symbol`, in shares, below 0 if sold short (0 if
+-- there is no summary), and its last price in cents (0 if none), as the tables `t` record them.
 abbrev pub AreQuantityAndPrice : Tables → ℕ → Text → QuantityAndPrice → Type 0
 AreQuantityAndPrice t account symbol held = (held.shares ≡ summary_quantity_in_symbol t account symbol) × (held.price ≡ last_price_in_tables t symbol)

@@ -41,7 +41,7 @@ fn lot_of_opening(trade: TradeRow, opening: &LotChange, changes: Vec<PricedLotCh
     }
 }
 
-fn lot_of_trade<S: Alter>(
+fn read_opened_lot<S: Alter>(
     alloc: Global,
     store: &mut Store<S>,
     trade: Id,
@@ -60,7 +60,7 @@ fn lot_of_trade<S: Alter>(
     Ok(Some(lot_of_opening(row, &first, changes_by_others)))
 }
 
-fn held_trade<S: Alter>(
+fn read_trade_with_lot<S: Alter>(
     alloc: Global,
     store: &mut Store<S>,
     trade: Id,
@@ -68,7 +68,7 @@ fn held_trade<S: Alter>(
     ensures { ReadPost S.Store store.old store.new result (λ one t. IsTradeWithLot t trade one) }
 {
     let row = require_trade(store, trade)?;
-    let lot = lot_of_trade(alloc, store, trade)?;
+    let lot = read_opened_lot(alloc, store, trade)?;
     Ok(TradeAndLot { trade: row, lot })
 }
 
@@ -82,7 +82,8 @@ fn push_opened_lot(lots: &mut Vec<LotDetails>, lot: Option<LotDetails>) -> Resul
     Ok(())
 }
 
-// After an error the lot may be appended without the trade.
+// Appends also the lot of the trade, if it has one. After an error the lot may be appended without
+// the trade.
 fn push_trade(held: &mut TradesAndLots, one: TradeAndLot) -> Result<(), AllocError>
     ensures done { OnOk result (held.new.done.items ≡ held.old.done.items ++ one.trade ∷ []) }
     ensures lots { OnOk result (map abstract_lot_details held.new.lots.items
@@ -94,7 +95,7 @@ fn push_trade(held: &mut TradesAndLots, one: TradeAndLot) -> Result<(), AllocErr
     Ok(())
 }
 
-pub(crate) fn held_trades<S: Alter>(
+pub(crate) fn read_holding_trades<S: Alter>(
     alloc: Global,
     store: &mut Store<S>,
     account: Id,
@@ -108,7 +109,7 @@ pub(crate) fn held_trades<S: Alter>(
         lots: Vec::new(alloc),
     };
     for id in &ids {
-        let one = held_trade(alloc, store, *id)?;
+        let one = read_trade_with_lot(alloc, store, *id)?;
         push_trade(&mut held, one)?;
     }
     Ok(held)

@@ -7,7 +7,7 @@ ghost use Rattle.brk_explain_reads.specs.HoldingParts.{AreQuantityAndPrice};
 ghost use Rattle.brk_explain_rows.specs.Details.{AreDetailsOfHolding};
 ghost use Rattle.brk_store_transactions.specs.Holds.{ReadPost};
 
-use crate::holding_trades::{TradesAndLots, held_trades};
+use crate::holding_trades::{TradesAndLots, read_holding_trades};
 use brk_explain_rows::HoldingDetails;
 use brk_money::{CallFault, Id, Planned, Price, Refusal};
 use brk_ref::{AccountRow, Security, SummaryRow, Symbol};
@@ -39,7 +39,7 @@ fn priced_quantity(shares: i64, price: Price) -> QuantityAndPrice
     QuantityAndPrice { shares, price }
 }
 
-fn quantity_now<S: Alter>(
+fn read_quantity_with_price<S: Alter>(
     store: &mut Store<S>,
     account: Id,
     symbol: &Symbol,
@@ -87,7 +87,7 @@ pub fn gather_holding<S: Alter>(
     let Some(security) = store.security(symbol)? else {
         return Ok(Err(Refusal::NoSecurity));
     };
-    let held = held_trades(alloc, store, account, symbol)?;
-    let now = quantity_now(store, account, symbol)?;
+    let held = read_holding_trades(alloc, store, account, symbol)?;
+    let now = read_quantity_with_price(store, account, symbol)?;
     Ok(Ok(holding_details_of(row, security, held, now)))
 }

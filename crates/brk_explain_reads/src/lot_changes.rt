@@ -83,7 +83,8 @@ fn with_price(change: &LotChange, stamp: Stamp, price: Price) -> PricedLotChange
     }
 }
 
-fn read_priced<S: Alter>(
+// Fails with `Store` also if the trade of the change does not exist or has no price.
+fn read_priced_change<S: Alter>(
     store: &mut Store<S>,
     change: &LotChange,
 ) -> Result<PricedLotChange, CallFault>
@@ -97,7 +98,7 @@ fn read_priced<S: Alter>(
     Ok(with_price(change, trade.stamp, price))
 }
 
-fn read_unsorted<S: Alter>(
+fn read_changes_in_id_order<S: Alter>(
     alloc: Global,
     store: &mut Store<S>,
     lot: Id,
@@ -109,7 +110,7 @@ fn read_unsorted<S: Alter>(
     let later = later_changes(alloc, &changes, lot)?;
     let mut changes_by_others = Vec::new(alloc);
     for change in &later {
-        let priced_change = read_priced(store, change)?;
+        let priced_change = read_priced_change(store, change)?;
         changes_by_others.push(priced_change)?;
     }
     Ok(OpeningAndLaterChanges {
@@ -129,6 +130,7 @@ fn sort_changes(
     Ok(sorted)
 }
 
+// Returns the changes by other trades in the order of their completion.
 pub(crate) fn read_changes<S: Alter>(
     alloc: Global,
     store: &mut Store<S>,
@@ -136,7 +138,7 @@ pub(crate) fn read_changes<S: Alter>(
 ) -> Result<OpeningAndLaterChanges, CallFault>
     ensures { ReadPost S.Store store.old store.new result (λ all t. AreLotChangesByCompletion t lot all) }
 {
-    let all = read_unsorted(alloc, store, lot)?;
+    let all = read_changes_in_id_order(alloc, store, lot)?;
     let changes_by_others = sort_changes(alloc, all.changes_by_others)?;
     Ok(OpeningAndLaterChanges {
         opening: all.opening,

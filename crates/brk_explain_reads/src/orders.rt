@@ -28,7 +28,7 @@ fn read_statuses<S: Alter>(
     Ok(statuses)
 }
 
-pub(crate) fn order_of_trade<S: Alter>(
+pub(crate) fn read_order_details<S: Alter>(
     alloc: Global,
     store: &mut Store<S>,
     trade: TradeRow,

@@ -5,7 +5,7 @@ ghost use Rattle.brk_store_transactions.specs.Holds.{ReadPost};
 
 use crate::cash::cash_sum_before;
 use crate::settled::read_settlement;
-use crate::terms::read_terms;
+use crate::terms::read_tax_rates_with_band;
 use crate::trade_lots::read_trade_lots;
 use brk_explain_rows::{OrderDetails, ResultDetails};
 use brk_money::CallFault;
@@ -14,7 +14,7 @@ use sqlite::Alter;
 use std::alloc::Global;
 
 // The clause says something only if `order` has the rows and the status changes of its trade.
-pub(crate) fn result_of_trade<S: Alter>(
+pub(crate) fn read_result_details<S: Alter>(
     alloc: Global,
     store: &mut Store<S>,
     order: &OrderDetails,
@@ -25,7 +25,7 @@ pub(crate) fn result_of_trade<S: Alter>(
     let Some(price) = order.trade.price else {
         return Err(CallFault::Store);
     };
-    let terms = read_terms(alloc, store, order)?;
+    let terms = read_tax_rates_with_band(alloc, store, order)?;
     let settled = read_settlement(store, order.trade.id)?;
     let cash = cash_sum_before(store, order.trade.account, order.trade.stamp)?;
     Ok(ResultDetails {

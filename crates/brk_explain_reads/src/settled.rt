@@ -1,4 +1,4 @@
-//! The settlement of a trade.
+//! The settlement of a trade, its cash row, and the first day of one-day settlement.
 
 ghost use Rattle.brk_explain_reads.specs.Found.{IsSettlementAndCashOfTrade};
 ghost use Rattle.brk_store_transactions.specs.Holds.{ReadPost};
@@ -19,6 +19,7 @@ pub struct SettlementAndCash {
     pub rule: Option<Day>,
 }
 
+// Reads also the cash row of the trade, and the first day of one-day settlement.
 pub(crate) fn read_settlement<S: Alter>(
     store: &mut Store<S>,
     trade: Id,

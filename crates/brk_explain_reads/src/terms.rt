@@ -38,7 +38,7 @@ fn customer_rates<S: Alter>(
     Ok(rates)
 }
 
-fn fitting_band(band: Band, qty: Qty, other: Option<Band>) -> Option<Band>
+fn prefer_band_with_quantity(band: Band, qty: Qty, other: Option<Band>) -> Option<Band>
     ensures { option_map abstract_band result
         ≡ (if nat_le band.from_qty qty && nat_le qty band.to_qty then Some (abstract_band band) else option_map abstract_band other) }
 {
@@ -57,11 +57,12 @@ fn band_with_quantity(bands: Vec<Band>, qty: Qty) -> Option<Band>
     let mut rest = bands;
     let mut found = None;
     while let Some(band) = rest.pop() {
-        found = fitting_band(band, qty, found);
+        found = prefer_band_with_quantity(band, qty, found);
     }
     found
 }
 
+// Reads the bands of `tier`, and returns the one that applies to the order, if there is one.
 fn band_for_tier<S: Alter>(
     alloc: Global,
     store: &mut Store<S>,
@@ -75,7 +76,7 @@ fn band_for_tier<S: Alter>(
     Ok(band_with_quantity(bands, order.trade.qty))
 }
 
-pub(crate) fn read_terms<S: Alter>(
+pub(crate) fn read_tax_rates_with_band<S: Alter>(
     alloc: Global,
     store: &mut Store<S>,
     order: &OrderDetails,

@@ -6,8 +6,8 @@ ghost use Rattle.brk_money.specs.Kinds.{is_same_trade_status};
 ghost use Rattle.brk_money.specs.declared.status.Status.TheVariants.{Completed};
 ghost use Rattle.brk_store_transactions.specs.Holds.{ReadPost};
 
-use crate::orders::order_of_trade;
-use crate::results::result_of_trade;
+use crate::orders::read_order_details;
+use crate::results::read_result_details;
 use brk_explain_rows::TradeDetails;
 use brk_money::{CallFault, Id, Status};
 use brk_ref::TradeRow;
@@ -35,14 +35,14 @@ pub fn gather_trade<S: Alter>(
     let Some(row) = store.trade(trade)? else {
         return Ok(None);
     };
-    let order = order_of_trade(alloc, store, row)?;
+    let order = read_order_details(alloc, store, row)?;
     if !is_completed(&order.trade) {
         return Ok(Some(TradeDetails {
             order,
             result: None,
         }));
     }
-    let outcome = result_of_trade(alloc, store, &order)?;
+    let outcome = read_result_details(alloc, store, &order)?;
     Ok(Some(TradeDetails {
         order,
         result: Some(outcome),

@@ -27,8 +27,7 @@ use Rattle.brk_explain_rows.specs.declared.details.TradeDetails as trade_details
 abbrev pub abstract_closing : closing.Closing → Closing
 abstract_closing c = record { lot = c.lot; stamp = c.stamp; price = c.price; before = c.before; after = c.after }
 
--- The model's facts of a trade as ordered that have the values of the typed facts `o`: the trade,
--- values of its account, the name of its security, and its status changes, in the order of `o`.
+-- The model's facts of a trade as ordered, with the values of the typed facts `o`, in their order.
 abbrev pub abstract_order_details : order_details.OrderDetails → OrderDetails
 abstract_order_details o = record {
   trade = abstract_trade_row o.trade;
@@ -56,8 +55,7 @@ abstract_result_details r = record {
   rule = r.rule;
 }
 
--- The model's facts of a trade (as ordered, and its results if it is completed) that have the
--- values of the typed facts `s`.
+-- The model's facts of a trade, as ordered and its results if completed, from the typed facts `s`.
 abbrev pub abstract_trade_details : trade_details.TradeDetails → TradeDetails
 abstract_trade_details s = record { order = abstract_order_details s.order; result = option_map abstract_result_details s.result }
 
@@ -71,9 +69,8 @@ AreDetailsOfTrade trade (Some s) t = (u : TradeRow) × (trade_row_with_id t trad
 abbrev pub abstract_priced_holding : held.PricedHolding → PricedHolding
 abstract_priced_holding h = record { summary = abstract_summary_row h.summary; price = h.price }
 
--- The facts `s` are the row of `account` in the tables `t`, and its holding summaries, in the order
--- of the table, each with the last price of its symbol, or 0 if the symbol has none. They are
--- `None` if and only if the account does not exist.
+-- The facts `s` are the row of `account` in the tables `t` and its holding summaries, in table
+-- order, each with its last price (0 if none). `None` if and only if the account does not exist.
 abbrev pub AreDetailsOfAccount : ℕ → Option account_details.AccountDetails → Tables → Type 0
 AreDetailsOfAccount account None t = account_row_with_id t account ≡ None
 AreDetailsOfAccount account (Some s) t =
@@ -87,12 +84,11 @@ abstract_priced_lot_change c = record { trade = c.trade; stamp = c.stamp; price 
 abbrev pub abstract_lot_details : lot_details.LotDetails → LotDetails
 abstract_lot_details l = record { trade = abstract_trade_row l.trade; opened = l.opened; changes = map abstract_priced_lot_change l.changes.items }
 
--- The facts `s` are exactly the facts that the explanation of the holding of `account` in the
--- security `symbol` reads from the tables `t`: the rows of the account and of the security, the
--- completed trades of the account in the security, the lots that these trades opened, both sorted
--- by the stamp of completion, ascending, the quantity, in shares, in the holding summary, 0 without
--- one, and the last price, in cents, 0 without one. A refusal is `NoAccount` if the account does
--- not exist, and `NoSecurity` if the account exists and the security does not.
+-- The facts `s` are those that the explanation of the holding of `account` in the security `symbol`
+-- reads from the tables `t`: the rows of account and security, the account's completed trades in
+-- the security and the lots that they opened, both sorted by completion stamp, the quantity in the
+-- holding summary, in shares, and the last price, in cents, both 0 if missing. The refusal is
+-- `NoAccount` if the account does not exist, and `NoSecurity` if only the security does not.
 abbrev pub AreDetailsOfHolding : ℕ → Text → Result holding_details.HoldingDetails Refusal → Tables → Type 0
 AreDetailsOfHolding account symbol (Err refusal) t =
     ((account_row_with_id t account ≡ None) × (refusal ≡ NoAccount))
@@ -103,8 +99,7 @@ AreDetailsOfHolding account symbol (Ok s) t =
     × (map abstract_lot_details s.lots.items ≡ lots_opened_in_symbol t account symbol)
     × (s.shares ≡ summary_quantity_in_symbol t account symbol) × (s.price ≡ last_price_in_tables t symbol)
 
--- The facts `s` are the row of `broker` in the tables `t` and the number of its accounts. They are
--- `None` if and only if the broker does not exist.
+-- `s` is the row of `broker` in `t` and the number of its accounts, or `None` if it does not exist.
 abbrev pub AreDetailsOfBroker : ℕ → Option broker_details.BrokerDetails → Tables → Type 0
 AreDetailsOfBroker broker None t = find (λ b. b.id == broker) t.brokers ≡ None
 AreDetailsOfBroker broker (Some s) t =

@@ -1,3 +1,5 @@
+//! The facts of the explanation of a trade: the trade as ordered, and its results.
+
 use crate::closing::Closing;
 use brk_money::{Day, Price, Wide};
 use brk_ref::{

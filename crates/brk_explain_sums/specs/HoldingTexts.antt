@@ -9,13 +9,11 @@ use Rattle.brk_model_explain.specs.Holdings.{LotChange}
 use Rattle.brk_explain_rows.specs.Details.{abstract_lot_details}
 use Rattle.brk_explain_rows.specs.declared.holding_details.HoldingDetails.{HoldingDetails}
 
--- The quantity of a lot after the last of its `changes`, or the quantity `opened` if there is no
--- change.
+-- The quantity of a lot after the last of its `changes`, or `opened` without changes.
 abbrev pub quantity_after_changes : ℤ → List LotChange → ℤ
 quantity_after_changes opened changes = unwrap_or (last_or None (map (λ c. c.after) changes)) opened
 
--- All lines of the explanation of the holding whose typed facts are `s`: of its account, security,
--- completed trades, lots, quantity and last price.
+-- All lines of the explanation of the holding with the typed facts `s`.
 abbrev pub lines_of_holding_details : HoldingDetails → List Text
 lines_of_holding_details s =
     holding_lines_from_trades_and_lots (abstract_account_row s.account) (abstract_security_row s.security)

@@ -64,6 +64,7 @@ pub fn commission_text(alloc: Global, row: &TradeRow, total: Wide) -> Result<Vec
     Ok(line)
 }
 
+// Writes the numbers of a broker's accounts and of their completed trades.
 fn put_broker_count(out: &mut Vec<u8>, accounts: usize, trades: u64) -> Result<(), AllocError>
     ensures { OnOk result (out.new.items ≡ out.old.items ++ line_with_line_feed (lines.broker_counts_line accounts trades)) }
 {

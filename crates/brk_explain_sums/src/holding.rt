@@ -55,7 +55,7 @@ fn put_lot_header(out: &mut Vec<u8>) -> Result<(), AllocError>
 }
 
 #[tactic(auto, unfolding(brk_model_explain::specs::HoldingLines::holding_lines_from_trades_and_lots))]
-fn put_held_lines(
+fn put_holding_lines(
     alloc: Global,
     out: &mut Vec<u8>,
     details: &HoldingDetails,
@@ -74,10 +74,13 @@ fn put_held_lines(
 
 /// Returns all lines of the explanation of a holding. Fails with `Store` if an amount, a quantity
 /// or a count overflows, or if a trade has no price.
-pub fn explained_holding(alloc: Global, details: &HoldingDetails) -> Result<Vec<u8>, CallFault>
+pub fn holding_explanation_text(
+    alloc: Global,
+    details: &HoldingDetails,
+) -> Result<Vec<u8>, CallFault>
     ensures { IfOk result (λ text. text.items ≡ text_of_lines (lines_of_holding_details details.now)) }
 {
     let mut text = Vec::new(alloc);
-    put_held_lines(alloc, &mut text, details)?;
+    put_holding_lines(alloc, &mut text, details)?;
     Ok(text)
 }

@@ -111,7 +111,7 @@ pub(crate) fn remaining_cost_of_lots(lots: &[LotDetails]) -> Result<Wide, StoreF
     Ok(total)
 }
 
-fn open_lot_count(left: i64) -> u64
+fn count_as_open(left: i64) -> u64
     ensures { result ≡ (if not (is_zero left) then 1 else 0) }
 {
     if left == 0 { 0 } else { 1 }
@@ -132,7 +132,7 @@ pub(crate) fn count_open_lots(lots: &[LotDetails]) -> Result<u64, StoreFailed>
 {
     let mut count: u64 = 0;
     for lot in lots {
-        count = add_counts(count, open_lot_count(remaining_quantity(lot)))?;
+        count = add_counts(count, count_as_open(remaining_quantity(lot)))?;
     }
     Ok(count)
 }

@@ -22,7 +22,7 @@ use std::alloc::{AllocError, Global};
 
 // `sold` is the total of the sales, negated.
 #[tactic(auto, unfolding(brk_model_explain::specs::HoldingLines::purchase_sale_gain_and_cost_lines))]
-fn put_trading(
+fn put_trade_totals(
     alloc: Global,
     out: &mut Vec<u8>,
     bought: Wide,
@@ -38,7 +38,8 @@ fn put_trading(
     put_amount_fact(alloc, out, "Cost basis", cost)
 }
 
-// The unrealised gain is the worth minus `cost`, the cost basis.
+// Writes also the shares and the last price. The unrealised gain is the worth minus `cost`, the
+// cost basis.
 #[tactic(auto, unfolding(brk_model_explain::specs::HoldingLines::holding_value_lines))]
 fn put_worth(
     alloc: Global,
@@ -57,7 +58,8 @@ fn put_worth(
     Ok(put_amount_fact(alloc, out, "Unrealised gain", gain)?)
 }
 
-fn put_lot_counts(
+// Writes the numbers of trades, lots, open lots and changes.
+fn put_holding_counts(
     out: &mut Vec<u8>,
     trades: usize,
     lots: usize,
@@ -91,8 +93,8 @@ pub(crate) fn put_holding_end(
     let cost = remaining_cost_of_lots(lots)?;
     let open_lots = count_open_lots(lots)?;
     let changes = count_of_lot_changes(lots)?;
-    put_trading(alloc, out, bought, sold, gain, cost)?;
+    put_trade_totals(alloc, out, bought, sold, gain, cost)?;
     put_worth(alloc, out, shares, price, cost)?;
-    put_lot_counts(out, done.len(), lots.len(), open_lots, changes)?;
+    put_holding_counts(out, done.len(), lots.len(), open_lots, changes)?;
     Ok(())
 }

@@ -10,4 +10,4 @@ mod trade_rows;
 mod trades;
 
 pub use broker::{broker_end_text, broker_head, commission_text};
-pub use holding::explained_holding;
+pub use holding::holding_explanation_text;

@@ -12,7 +12,7 @@ use crate::holding_lots::{
 };
 use crate::trades::completed_price;
 use brk_explain_columns::{
-    align_shares, align_value, end_line, put_row_start, put_undated_row, shares_value,
+    align_shares, align_value, end_line, put_row_start, put_undated_row_start, shares_value,
 };
 use brk_explain_rows::{LotDetails, PricedLotChange};
 use brk_money::{CallFault, Price};
@@ -78,7 +78,7 @@ fn put_remainder(alloc: Global, out: &mut Vec<u8>, lot: &LotDetails) -> Result<(
     let price = completed_price(&lot.trade)?;
     let cost = remaining_cost_of_lot(lot)?;
     let left = i128::from(remaining_quantity(lot));
-    put_undated_row(alloc, out, "Left", lot.trade.id, left, price)?;
+    put_undated_row_start(alloc, out, "Left", lot.trade.id, left, price)?;
     align_value(alloc, out, cost)?;
     Ok(end_line(out)?)
 }

@@ -9,9 +9,8 @@ use Rattle.brk_desk.specs.declared.call.Call as made
 use Rattle.brk_desk.specs.declared.call.Outcome as came
 use Rattle.brk_model.specs.Run.{Call, Outcome}
 
--- The call `call` of the model, at the timestamp `now`, represents a call of the desk that changed
--- the state of the desk from `old` to `new` and had the outcome `outcome`, with the effect that
--- `OutcomePost` specifies.
+-- The model's call `call` at `now` represents a call of the desk that turned it from `old` to `new`
+-- with the outcome `outcome`, as `OutcomePost` specifies.
 pub record DeskCallHasOutcome {S : Type 0} (g : Ghosts S) (old : Held S) (now : ℕ) (call : Call) (outcome : Outcome) (new : Held S) : Type 0 where
   -- The call of the desk and its outcome; in the model they are `call` and `outcome`.
   pub made : made.Call

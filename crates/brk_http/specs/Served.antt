@@ -1,5 +1,4 @@
--- The effect of one stream on a desk, for a reader whose content is not specified, such as a
--- socket.
+-- The effect of a stream on a desk if the reader's content is not specified, such as a socket's.
 use Rattle.std.specs.Prelude.{◌<◌, ◌≤◌, ℕ, IfErr, IfOk, List, Result, length, map}
 use Rattle.sqlite_trees.specs.declared.store.Store.{Ghosts}
 use Rattle.sqlite.specs.Held.{Held}
@@ -13,11 +12,10 @@ use Rattle.brk_http_engine.specs.Limits.{call_limit_of_stream}
 use Rattle.brk_io.specs.declared.stream_fault.ServeFault.{ServeFault}
 use Rattle.brk_http_engine.specs.Listening.{ServeRelation}
 
--- A stream that ended with the result `ended` changed the desk from the state `old` to the state
--- `new` only by a sequence of calls of the desk, with their outcomes, and the clock from `clock` to
--- `later` only by one reading for each command among them. There are at most 1,000 replies, fewer
--- before a fault, and at most one call for each reply and one more after a fault of memory or of
--- the writer.
+-- A stream that ended with `ended` turned the desk from `old` to `new` only by a sequence of its
+-- calls, with their outcomes, and the clock from `clock` to `later` only by one reading for each
+-- command among them. There are at most 1,000 replies, fewer before a fault, and at most one call
+-- for each, and one more after a fault of memory or of the writer.
 pub record ServesStreamByCalls {S C : Type 0} (g : Ghosts S) (gives : C → ℕ → C → Type 0) (clock : C) (old : Held S) (later : C) (new : Held S)
     (ended : Result ℕ ServeFault) : Type 0 where
   pub calls : List (ℕ × Call)

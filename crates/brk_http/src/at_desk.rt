@@ -1,3 +1,5 @@
+//! A desk over a store, as the HTTP engine uses it.
+
 ghost use Rattle.brk_desk_commands.specs.Commands.{abstract_command};
 ghost use Rattle.brk_http.specs.CallOutcomes.{DeskCallHasOutcome};
 ghost use Rattle.brk_model_http.specs.Asked.{model_parsers};

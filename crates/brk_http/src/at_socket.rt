@@ -1,3 +1,5 @@
+//! The server of TCP streams: the time limits of the socket, and the draining after the last reply.
+
 ghost use Rattle.brk_http.specs.Served.{DeskServesStream};
 
 use crate::streams::serve_stream;

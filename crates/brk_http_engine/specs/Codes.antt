@@ -24,8 +24,7 @@ use Rattle.brk_http_engine.specs.declared.acting.ServiceResponse.TheVariants as 
 abbrev pub key_in_model : Option ref.Key → Option records.Key
 key_in_model key = option_map abstract_key key
 
--- The model's outcome that the result of a query represents: `Saw` with its view, `NoView` with its
--- refusal, or `Failed` with its fault; `shown` maps a view to the model's view.
+-- The model's outcome for the result of a query; `shown` maps a view to the model's view.
 abbrev pub query_outcome_in_model : {V : Type 0} → (V → queries.View) → Result (Result V Refusal) Fault → run.Outcome
 query_outcome_in_model shown (Ok (Ok view)) = run.Saw (shown view)
 query_outcome_in_model shown (Ok (Err refusal)) = run.NoView refusal
@@ -35,19 +34,16 @@ query_outcome_in_model shown (Err fault) = run.Failed fault
 abbrev pub bytes_of_texts : Vec (String Global) → List Text
 bytes_of_texts texts = map string_bytes texts.items
 
--- The list of the records `records`, in order, each as the list of the bytes of its strings: a view
--- of the model.
+-- A view of the model: the records, in order, each as the list of the bytes of its strings.
 abbrev pub bytes_of_records : Vec (Vec (String Global)) → queries.View
 bytes_of_records records = map bytes_of_texts records.items
 
--- The model's route that a route represents: to a row, with its key if it has one, or to the view
--- with a name; `text` maps the name of a view to its text.
+-- The model's route that a route represents; `text` maps the name of a view to its text.
 abbrev pub route_in_model : {V : Type 0} → (V → Text) → Route V → routes.Route
 route_in_model text (route.ToRow key) = routes.ToRow (key_in_model key)
 route_in_model text (route.ToView view) = routes.ToView (text view)
 
--- The model's call that the call of a request represents or, if the request makes no call, the
--- model's response to it; `command` and `query` map commands and queries to those of the model.
+-- The model's call that a request makes, or its response if none; `command` and `query` map both.
 abbrev pub demand_in_model : {X Q : Type 0} → (X → model.Command) → (Q → queries.Query) → RequestedCall X Q → asked.RequestDemand
 demand_in_model command query (asking.Wrong problem) = asked.ResponseOnly (FromProblem problem)
 demand_in_model command query (asking.BadRow refusal) = asked.ResponseOnly (FromOutcome (run.Did (model.Refused refusal)))
@@ -55,8 +51,7 @@ demand_in_model command query (asking.BadQuery refusal) = asked.ResponseOnly (Fr
 demand_in_model command query (asking.Row x key) = asked.DeskCall (run.Do (command x) (key_in_model key))
 demand_in_model command query (asking.View q) = asked.DeskCall (run.Ask (query q))
 
--- The model's response that a response represents; `reply` and `shown` map replies and views to
--- those of the model.
+-- The model's response that a response represents; `reply` and `shown` map replies and views.
 abbrev pub response_in_model : {R V : Type 0} → (R → model.Reply) → (V → queries.View) → ServiceResponse R V → Response
 response_in_model reply shown (told.Wrong problem) = FromProblem problem
 response_in_model reply shown (told.NoRow refusal) = FromOutcome (run.Did (model.Refused refusal))

@@ -6,16 +6,14 @@ use Rattle.brk_io.specs.declared.stream_fault.FaultKind.{FaultKind}
 use Rattle.brk_io.specs.declared.stream_fault.FaultKind.TheVariants as kinds
 use Rattle.brk_io.specs.declared.stream_fault.ServeFault.{ServeFault}
 
--- The greatest number of calls of the desk that the request at which this fault ended the stream
--- makes: 0 if the reader failed, 1 if the writer failed or memory ran out.
+-- The most calls of the desk by a request with this fault: 0 if the reader failed, otherwise 1.
 abbrev pub call_limit_at_fault : FaultKind → ℕ
 call_limit_at_fault kinds.Read = 0
 call_limit_at_fault kinds.Write = 1
 call_limit_at_fault kinds.Memory = 1
 
--- The greatest number of calls of the desk that an exchange of a stream with this result makes: 0
--- if no input was left, 1 after a reply, and after a fault the limit at this fault
--- (`call_limit_at_fault`).
+-- The most calls of the desk by an exchange with this result: 0 if no input was left, 1 after a
+-- reply, and `call_limit_at_fault` after a fault.
 abbrev pub call_limit_of_exchange : Result ExchangeResult FaultKind → ℕ
 call_limit_of_exchange (Ok turn.Ended) = 0
 call_limit_of_exchange (Ok turn.Open) = 1

@@ -4,8 +4,7 @@ use Rattle.brk_money.specs.Spelling.{Text}
 use Rattle.brk_model_http.specs.Replies.{http_head_line}
 use Rattle.http.specs.StatusCode.{code_digits, reason_phrase}
 
--- The status `code` as it is written in a head: its three digits, a space and its reason phrase,
--- which is empty if the code has none.
+-- The status `code` in a head: its three digits, a space and its reason phrase (empty if none).
 unfoldable pub status_text : ℕ → Text
 status_text code = code_digits code ++ 32 ∷ unwrap_or (reason_phrase code) []
 

@@ -1,5 +1,4 @@
--- The streams of a listener, accepted and served in sequence, for any listener and any server of
--- streams.
+-- Streams of a listener, accepted and served in sequence, for any listener and server of streams.
 use Rattle.std.specs.Prelude.{◌≡◌, ◌≢◌, ◌<◌, ℕ, List, [], ◌∷◌, Option, None, Some, Result, Ok, Err, length}
 use Rattle.brk_io.specs.declared.stream_fault.ServeFault.{ServeFault}
 use Rattle.brk_io.specs.declared.stream_fault.FaultKind.TheVariants.{Memory}
@@ -14,18 +13,15 @@ pub record ListenerClockAndDesk (L C D : Type 0) : Type 0 where
   pub clock : C
   pub desk : D
 
--- The type of the relation of one accept: the accept may turn the first listener into the second,
--- with this result, a stream of type `X` or a fault.
+-- The type of an accept's relation: listener before, stream of type `X` or fault, listener after.
 abbrev pub AcceptRelation : Type 0 → Type 0 → Type 1
 AcceptRelation L X = L → Result X AcceptFault → L → Type 0
 
--- The type of the relation of serving one stream of type `X`: it may turn the first clock and desk
--- into the second, with this result, the number of replies or a fault.
+-- The type of the relation of serving a stream: clock and desk before, stream, result, both after.
 abbrev pub ServeRelation : Type 0 → Type 0 → Type 0 → Type 1
 ServeRelation C D X = C → D → X → Result ℕ ServeFault → C → D → Type 0
 
--- The type of the end of a stream: the result of serving it, or `None` if its peer broke it off
--- before it was accepted.
+-- The end of a stream: its result, or `None` if its peer broke it off before it was accepted.
 abbrev pub StreamEnd : Type 0
 StreamEnd = Option (Result ℕ ServeFault)
 
@@ -36,25 +32,22 @@ pub record AcceptHasResult {L C D X : Type 0} (accepts : AcceptRelation L X) (ol
   pub clock : new.clock ≡ old.clock
   pub desk : new.desk ≡ old.desk
 
--- The next stream of the listener has this end. `None`: the accept failed because the peer broke
--- the stream off (`Aborted`), and clock and desk are unchanged. Otherwise the stream was accepted
--- and served with this result.
+-- The next stream has this end. `None`: the accept failed because the peer broke the stream off
+-- (`Aborted`); clock and desk are unchanged. Otherwise it was accepted and served with this result.
 abbrev pub HandlesStream : {L C D X : Type 0} → AcceptRelation L X → ServeRelation C D X → ListenerClockAndDesk L C D → StreamEnd → ListenerClockAndDesk L C D
     → Type 0
 HandlesStream accepts serves old None new = AcceptHasResult accepts old (Err Aborted) new
 HandlesStream {X = X} accepts serves old (Some ended) new =
     (stream : X) × accepts old.listener (Ok stream) new.listener × serves old.clock old.desk stream ended new.clock new.desk
 
--- The listener may accept the next stream after one with this end: that stream did not end because
--- memory ran out. True of a stream that its peer broke off.
+-- The next stream may be accepted after one with this end: memory did not run out.
 abbrev pub MayAcceptNextStream : StreamEnd → Type 0
 MayAcceptNextStream None = Unit {0}
 MayAcceptNextStream (Some (Ok count)) = Unit {0}
 MayAcceptNextStream (Some (Err fault)) = fault.kind ≢ Memory
 
--- From the state `old` to the state `new` exactly the next streams of the listener were handled,
--- one for each of these ends, in order, and none of them ended because memory ran out. Without ends
--- `new` equals `old`.
+-- Exactly the next streams of the listener were handled from `old` to `new`, one for each of these
+-- ends, in order, and none ended because memory ran out. Without ends `new` equals `old`.
 abbrev pub HandlesStreamsInOrder : {L C D X : Type 0} → AcceptRelation L X → ServeRelation C D X → ListenerClockAndDesk L C D → List StreamEnd
     → ListenerClockAndDesk L C D → Type 0
 HandlesStreamsInOrder accepts serves old [] new = new ≡ old
@@ -62,9 +55,8 @@ HandlesStreamsInOrder {L} {C} {D} accepts serves old (end ∷ ends) new =
     (mid : ListenerClockAndDesk L C D) × HandlesStream accepts serves old end mid × MayAcceptNextStream end × HandlesStreamsInOrder accepts serves mid ends new
 
 -- The postcondition of accepting and serving `streams` streams in sequence. `Ok`: exactly `streams`
--- streams were handled. `Stream`: fewer than `streams` were handled, and then one more was accepted
--- and served, and ended with this fault, because memory ran out. `Net`: fewer than `streams` were
--- handled, the next accept failed with `Failed`, and it changed neither the clock nor the desk.
+-- were handled. `Stream`: fewer were handled, and one more ended with this fault, because memory
+-- ran out. `Net`: fewer were handled, and the next accept failed; clock and desk are unchanged.
 abbrev pub ServeEachStreamPost : {L C D X : Type 0} → AcceptRelation L X → ServeRelation C D X → ℕ → ListenerClockAndDesk L C D → Result (Unit {0}) ListenFault
     → ListenerClockAndDesk L C D → Type 0
 ServeEachStreamPost accepts serves streams old (Ok done) new =

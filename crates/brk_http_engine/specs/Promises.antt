@@ -14,14 +14,12 @@ abbrev pub ChangesOnlyByCalls : {D : Type 0} → CallRelation D → ℕ → D �
 ChangesOnlyByCalls acts most old new =
     (calls : List (ℕ × Call)) × (outcomes : List Outcome) × IsCallSequence acts old calls outcomes new × (length calls ≤ most)
 
--- What a call at the clock reading `now` reads of the clock: a command reads it once, and `now` is
--- this reading; a query does not read it.
+-- A command reads the clock once, and `now` is this reading; a query does not read it.
 abbrev pub ReadsClockForCall : {C : Type 0} → (C → ℕ → C → Type 0) → C → ℕ → Call → C → Type 0
 ReadsClockForCall gives clock now (Do command key) later = gives clock now later
 ReadsClockForCall gives clock now (Ask query) later = later ≡ clock
 
--- The clock changed from `clock` to `later` by what the calls read of it, in order
--- (`ReadsClockForCall`), and by nothing else.
+-- The clock changed from `clock` to `later` only by the readings of the calls, in order.
 abbrev pub ReadsClockForCalls : {C : Type 0} → (C → ℕ → C → Type 0) → C → List (ℕ × Call) → C → Type 0
 ReadsClockForCalls gives clock [] later = later ≡ clock
 ReadsClockForCalls {C} gives clock (call ∷ calls) later =
@@ -35,24 +33,21 @@ CallWithClock acts gives old now call outcome new = acts old.0 now call outcome 
 abbrev pub CallScript : Type 0
 CallScript = List (ℕ × Call) × List Outcome
 
--- The relation of a call of a scripted desk, whose state is a script: `call` at the clock reading
--- `now` is the first call of `script`, `outcome` is its first outcome, and `rest` is the script
--- without both. False if the script has no call or no outcome left.
+-- The relation of a call of a desk that is a script: `call` at `now` and `outcome` are the first of
+-- `script`, and `rest` is the script without both. False if no call or no outcome is left.
 abbrev pub IsNextScriptedCall : CallRelation CallScript
 IsNextScriptedCall script now call outcome rest = (script.0 ≡ (now, call) ∷ rest.0) × (script.1 ≡ outcome ∷ rest.1)
 
--- The stream with the content `input` makes exactly the calls of `script`, in the order of
--- `script`. The script has exactly one outcome for each of these calls, and the replies and the
--- result of the stream follow from the outcomes.
+-- The stream `input` makes exactly the calls of `script`, in order; the script has one outcome for
+-- each, and the replies and the result follow from these.
 abbrev pub StreamMatchesScript : {C : Type 0} → RequestParsers → (C → ℕ → C → Type 0) → Text → CallScript → ClockAndWriterChange C → Result ℕ ServeFault
     → Type 0
 StreamMatchesScript forms gives input script outside result =
     IsStreamResult forms IsNextScriptedCall gives input (environment_change_with_bases script ([], []) outside) result
 
--- The stream with the content `input` refines the model: for every base that the desk represented
--- before the stream (`represents`), the replies and the result are possible in the model from this
--- base by calls that satisfy `does`, and the desk represents the base after these calls. Vacuous if
--- the disk assumption (`meets_disk_assumption`) fails after the stream.
+-- The stream `input` refines the model: for every base that the desk represented, the replies and
+-- the result are possible in the model from this base by calls that satisfy `does`, and the desk
+-- represents the base after them. Vacuous if the disk assumption fails (`meets_disk_assumption`).
 abbrev pub StreamRefinesModel : {D B C : Type 0} → (D → Type 0) → (D → B → Type 0) → RequestParsers → CallRelation B → (C → ℕ → C → Type 0) → Text → D → D
     → ClockAndWriterChange C → Result ℕ ServeFault → Type 0
 StreamRefinesModel {B = B} meets_disk_assumption represents forms does gives input first last outside result =

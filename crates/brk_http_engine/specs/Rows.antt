@@ -5,9 +5,8 @@ use Rattle.matchit.specs.Router.{RouteOf}
 use Rattle.brk_http_engine.specs.declared.router.RouteKind.{RouteKind}
 use Rattle.brk_http_engine.specs.declared.router.RouteKind.TheVariants.{Row, KeyedRow, View}
 
--- The row of the router for a route: its pattern `pattern`, paired with this pattern, the text
--- `text` of the route, the start (included) and the end (excluded), in bytes, of the name of each
--- parameter in this text (`names`), and the kind `kind` of the route.
+-- The row of the router for a route: its pattern, paired with this pattern, its text, the start
+-- (included) and end (excluded), in bytes, of each parameter's name (`names`), and its kind.
 abbrev pub router_row : List ℕ → List ℕ → List (ℕ × ℕ) → RouteKind → List ℕ × RouteOf RouteKind
 router_row pattern text names kind = (pattern, record { pattern = pattern; text = text; names = names; value = kind })
 

@@ -1,3 +1,5 @@
+//! The streams of a listener, accepted and served in sequence.
+
 ghost use Rattle.brk_http_engine.specs.Listening.{ServeEachStreamPost};
 
 use crate::listen_faults::{AcceptFault, ListenFault};

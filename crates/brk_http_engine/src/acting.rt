@@ -1,3 +1,5 @@
+//! The execution of the call that a request makes, and the response to it.
+
 ghost use Rattle.std.specs.Prelude.{◌≡◌, ℕ, List};
 ghost use Rattle.brk_model.specs.Run.{Ask, Do, Outcome};
 ghost use Rattle.brk_model_http.specs.Replies.{FromOutcome};
@@ -32,7 +34,7 @@ pub enum ServiceResponse<R, V> {
     Failed(Fault),
 }
 
-fn row_response<D: Service>(
+fn execute_command<D: Service>(
     alloc: Global,
     desk: &mut D::Desk,
     now: Stamp,
@@ -83,7 +85,7 @@ pub fn respond<C: Clock, D: Service>(
         RequestedCall::BadQuery(refusal) => ServiceResponse::NoView(refusal),
         RequestedCall::Row(command, key) => {
             let now = clock.now();
-            row_response::<D>(alloc, desk, now, &command, &key)
+            execute_command::<D>(alloc, desk, now, &command, &key)
         }
         RequestedCall::View(query) => execute_query::<D>(alloc, desk, &query),
     }

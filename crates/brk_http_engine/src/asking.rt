@@ -33,6 +33,7 @@ pub enum RequestedCall<X, Q> {
     View(Q),
 }
 
+// Parses the texts of a body as the fields of a row, or as the arguments of a view.
 fn call_of_texts<D: Service>(
     alloc: Global,
     route: Route<D::ViewName>,

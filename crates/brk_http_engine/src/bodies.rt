@@ -1,3 +1,5 @@
+//! The JSON of bodies: parsed of a request, and formatted of a reply.
+
 ghost use Rattle.std.specs.Prelude.{◌≡◌, ◌≢◌, List, ℕ, map, codes, string_bytes, IfOk, IfSome, IfNone, option_map};
 ghost use Rattle.serde_json.specs.Data.{Data, string, array, object, member, no_members};
 ghost use Rattle.serde_json.specs.View.{view, items_of};

@@ -1,3 +1,5 @@
+//! Texts split at a character, and copied.
+
 ghost use Rattle.std.specs.Prelude.{◌≡◌, ◌<◌, IfOk};
 ghost use Rattle.brk_ref.specs.Fields.{texts_of_fields as slices};
 ghost use Rattle.brk_model_http.specs.Routes as spec;

@@ -1,3 +1,5 @@
+//! The reply to a response: its status, its head and its body.
+
 ghost use Rattle.std.specs.Prelude.{◌≡◌, ◌++◌, [], IfOk, OnOk, decimal, string_bytes, unwrap_or};
 ghost use Rattle.http.specs.StatusCode.{reason_phrase};
 ghost use Rattle.brk_model_http.specs.Replies.{FromOutcome, is_method_not_allowed, response_body, fault_word, http_head_line, is_fault_response};
@@ -135,7 +137,7 @@ fn append_line(head: &mut String, line: &str) -> Result<(), AllocError>
     write!(head, "{line}\r\n")
 }
 
-fn append_wanted(head: &mut String, is_wanted: bool, line: &str) -> Result<(), AllocError>
+fn append_optional_line(head: &mut String, is_wanted: bool, line: &str) -> Result<(), AllocError>
     ensures { OnOk result (string_bytes head.new ≡ string_bytes head.old ++ head_line_if is_wanted line.now) }
 {
     if is_wanted {
@@ -163,7 +165,7 @@ fn full_status(alloc: Global, code: StatusCode) -> Result<String, AllocError>
     Ok(line)
 }
 
-fn labelled(alloc: Global, label: &str, value: &str) -> Result<String, AllocError>
+fn text_with_label(alloc: Global, label: &str, value: &str) -> Result<String, AllocError>
     ensures { IfOk result (λ s. string_bytes s ≡ label.now ++ value.now) }
 {
     let mut text = String::from_str(alloc, label)?;
@@ -181,9 +183,9 @@ fn decimal_digits(alloc: Global, n: usize) -> Result<String, AllocError>
 fn first_head_lines(alloc: Global, status: &str, len: usize) -> Result<String, AllocError>
     ensures { IfOk result (λ s. string_bytes s ≡ first_head_lines status.now len) }
 {
-    let first = labelled(alloc, "HTTP/1.1 ", status)?;
+    let first = text_with_label(alloc, "HTTP/1.1 ", status)?;
     let digits = decimal_digits(alloc, len)?;
-    let third = labelled(alloc, "Content-Length: ", digits.as_str())?;
+    let third = text_with_label(alloc, "Content-Length: ", digits.as_str())?;
     let mut head = String::new(alloc);
     append_line(&mut head, first.as_str())?;
     append_line(&mut head, "Content-Type: application/json")?;
@@ -191,7 +193,7 @@ fn first_head_lines(alloc: Global, status: &str, len: usize) -> Result<String, A
     Ok(head)
 }
 
-fn reply_bytes(
+fn assemble_reply(
     alloc: Global,
     code: StatusCode,
     asks_post: bool,
@@ -202,8 +204,8 @@ fn reply_bytes(
 {
     let status = full_status(alloc, code)?;
     let mut text = first_head_lines(alloc, status.as_str(), body.len())?;
-    append_wanted(&mut text, asks_post, "Allow: POST")?;
-    append_wanted(&mut text, closes, "Connection: close")?;
+    append_optional_line(&mut text, asks_post, "Allow: POST")?;
+    append_optional_line(&mut text, closes, "Connection: close")?;
     append_line(&mut text, "")?;
     text.push_str(body)?;
     Ok(text)
@@ -219,7 +221,7 @@ pub fn reply_text<D: Service>(
     ensures { IfOk result (λ s. string_bytes s ≡ reply_text (response_in_model D.told D.shown response.now) closes) }
 {
     let body = response_body::<D>(alloc, response)?;
-    reply_bytes(
+    assemble_reply(
         alloc,
         response_status(response),
         is_method_not_allowed(response),

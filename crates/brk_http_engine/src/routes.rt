@@ -1,3 +1,5 @@
+//! The route of a request target, with the key of the row or the name of the view.
+
 ghost use Rattle.std.specs.Prelude.{◌≡◌, ◌∷◌, [], Bool, IfOk, MatchOption, codes, option_map};
 ghost use Rattle.std.specs.List.{list_all};
 ghost use Rattle.matchit.specs.Params.{AllText, named, walk};
@@ -22,7 +24,7 @@ pub enum Route<V> {
     ToView(V),
 }
 
-// A row number is 1 to 10^12, both included.
+// Parses the key in a target. A row number is 1 to 10^12, both included.
 fn key_of_batch_row(alloc: Global, batch: &[u8], n: &[u8]) -> Result<Option<Key>, AllocError>
     ensures key { IfOk result (λ key. option_map abstract_key key ≡ key_of_batch_row batch.now (read_id n.now)) }
 {

@@ -1,3 +1,5 @@
+//! The desk of the HTTP engine as a trait: it parses, executes and formats rows and queries.
+
 ghost use Rattle.std.specs.Prelude.{◌≡◌, ℕ, Bool, Err, IfOk, MatchOption, IsTrue, OnErr, bytes_eq};
 ghost use Rattle.std.specs.List.{list_any};
 ghost use Rattle.std.specs.Option.{option_copied};

@@ -1,3 +1,5 @@
+//! The requests of a stream, served in order up to its last reply.
+
 ghost use Rattle.std.specs.Prelude.{◌≡◌, ◌<◌, ◌≤◌, Bool, IfErr, IfOk, IfSome};
 ghost use Rattle.std.specs.List.{list_all};
 ghost use Rattle.brk_model_http.specs.Stream.{most_requests_per_stream};

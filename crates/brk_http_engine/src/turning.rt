@@ -1,3 +1,5 @@
+//! One exchange of a stream: the next request is read and executed, and its reply is written.
+
 ghost use Rattle.std.specs.Prelude.{◌≡◌, ◌==◌, ◌||◌, ◌+◌, ◌<◌, ◌++◌, ℕ, Bool, List, Option, Ok, Err, IfErr, IfOk, IfSome, length, string_bytes};
 ghost use Rattle.std.specs.Io.KnownBytes.{prepend_known};
 ghost use Rattle.std.specs.List.{list_all};
@@ -58,8 +60,9 @@ enum OutOfMemoryPoint {
     After,
 }
 
-// A fault of the desk, even `Memory`, is no failure: the reply reports it.
-fn draft_reply<C: Clock, D: Service>(
+// Executes the request at `places` and formats its reply, but writes nothing. A fault of the desk,
+// even `Memory`, is no failure: the reply reports it.
+fn execute_request<C: Clock, D: Service>(
     alloc: Global,
     router: &Router<RouteKind>,
     clock: &mut C,
@@ -151,7 +154,7 @@ pub fn serve_request<R: Read, W: Write, C: Clock, D: Service>(
             }
         }
         NextRequest::Whole(places) => {
-            let draft = match draft_reply::<C, D>(
+            let draft = match execute_request::<C, D>(
                 alloc, router, clock, desk, buffer, places, done,
             ) {
                 Ok(draft) => draft,

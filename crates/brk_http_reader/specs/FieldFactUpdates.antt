@@ -4,12 +4,11 @@ use Rattle.brk_model_http.specs.Fields.{HeadField, is_equal_ignoring_case, body_
 use Rattle.brk_model_http.specs.declared.problem.RequestProblem.TheVariants.{BadRequest}
 use Rattle.brk_http_reader.specs.declared.fields.FieldFactsSoFar.{FieldFactsSoFar}
 
--- The facts `s` of the head fields that were read so far, updated for one more field `p`, a name
--- and a value: whether there is a `Transfer-Encoding` (`chunked`), whether `Connection: close` asks
--- to close the stream (`closes`), whether there is a `Content-Length` (`any_length`), and the body
--- length in bytes, or the problem with it (`len`). If `p` is a `Content-Length`, `len` is the
--- result of parsing its value, or `BadRequest` if there was a `Content-Length` before; otherwise
--- `len` equals that of `s`. The case of ASCII letters in names and in `close` is ignored.
+-- The facts `s` of the head fields read so far, with one more field `p`, a name and a value:
+-- whether there is a `Transfer-Encoding` (`chunked`), a `Connection: close` (`closes`) and a
+-- `Content-Length` (`any_length`), and the body length in bytes, or its problem (`len`): at a
+-- `Content-Length` its parsed value, or `BadRequest` if it is the second; otherwise as in `s`. The
+-- case of ASCII letters in names and in `close` is ignored.
 abbrev pub facts_with_field : FieldFactsSoFar → HeadField → FieldFactsSoFar
 facts_with_field s p = record {
   chunked = s.chunked || is_equal_ignoring_case p.0 (codes "transfer-encoding");

@@ -7,15 +7,13 @@ use Rattle.brk_http_reader.specs.declared.next.RequestPositions.{RequestPosition
 use Rattle.brk_http_reader.specs.declared.next.NextRequest.{NextRequest}
 use Rattle.brk_http_reader.specs.declared.next.NextRequest.TheVariants.{Ended, Broken, Whole}
 
--- The positions of the method, the target and the body of a whole request are within the first
--- `len` bytes. Vacuous if there is no whole request.
+-- The method, target and body of a whole request, if there is one, are in the first `len` bytes.
 abbrev pub IsRequestWithin : NextRequest → ℕ → Type 0
 IsRequestWithin Ended len = ⊤
 IsRequestWithin (Broken b) len = ⊤
 IsRequestWithin (Whole r) len = IsWithin len r.method × IsWithin len r.target × IsWithin len r.body
 
--- The request whose method, target and body are the bytes of `buffer` at the positions `r`, with
--- the close flag of `r`.
+-- The request with the bytes of `buffer` at the positions `r`, and the close flag of `r`.
 abbrev pub request_at_positions : List ℕ → RequestPositions → Request
 request_at_positions buffer r = record {
   method = span_bytes buffer r.method;
@@ -24,11 +22,9 @@ request_at_positions buffer r = record {
   body = span_bytes buffer r.body;
 }
 
--- The result of `read_request`, the first argument, represents `found`, the result of reading
--- the first request in the model: no byte left, a request that cannot be read because of this
+-- The result of `read_request`, the first argument, represents the model's `found`: no byte left, a
 -- problem, or a complete request. After a complete request, the bytes of `buffer` after its body
--- and the bytes `left` in the reader are together the rest of the input; false if `left` is
--- unknown.
+-- and the bytes `left` in the reader are the rest of the input; false if `left` is unknown.
 abbrev pub MatchesNextRequest : NextRequest → List ℕ → Option (List ℕ) → RequestReading → Type 0
 MatchesNextRequest Ended buffer left found = found ≡ NoBytesLeft
 MatchesNextRequest (Broken b) buffer left found = found ≡ Unreadable b

@@ -28,6 +28,7 @@ fn is_equal_ignoring_case(a: &[u8], b: &[u8]) -> bool
     a.eq_ignore_ascii_case(b)
 }
 
+// True also for an empty value.
 fn is_all_digits(value: &[u8]) -> bool
     ensures { result ≡ list_all is_ascii_digit value.now }
 {
@@ -53,7 +54,8 @@ fn value_of_digits(value: &[u8]) -> usize
     number
 }
 
-// A value of more than nine digits is `TooLarge`, even if it has leading zeros.
+// Parses the value of a `Content-Length` field. A value of more than nine digits is `TooLarge`,
+// even if it has leading zeros.
 fn body_length_of_value(value: &[u8]) -> Result<usize, RequestProblem>
     ensures value { result ≡ spec.body_length_of_value value.now }
     ensures small { IfOk result (λ n. n ≤ spec.most_body_bytes) }

@@ -52,7 +52,8 @@ fn line_end_length_after_line_feed(byte: u8, rest: &[u8]) -> Option<usize>
     }
 }
 
-/// Returns the number of bytes up to and including the first empty line, which ends a head.
+/// Returns the number of bytes up to and including the first empty line, which ends a head, or
+/// `None` if there is no empty line.
 pub fn length_of_head(bytes: &[u8]) -> Option<usize>
     ensures value { result ≡ spec.head_length bytes.now }
     ensures within { IfSome result (λ n. n ≤ length bytes.now) }

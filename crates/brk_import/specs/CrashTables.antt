@@ -7,8 +7,7 @@ use Rattle.brk_model.specs.Sheets.{sheets}
 use Rattle.brk_store_transactions.specs.Audited.{IsConsistent}
 use Rattle.brk_store_transactions.specs.Holds.{IsDiskContentOfRows, CrashStatesSatisfy}
 
--- All that a crash may expose are the tables of `base` or, only if `other` is consistent, the
--- tables of `other`.
+-- A crash exposes only the tables of `base` or, only if `other` is consistent, of `other`.
 abbrev pub CrashExposesOnlyOneOf : {S : Type 0} → Ghosts S → Held S → Base → Base → Type 0
 CrashExposesOnlyOneOf g desk base other =
     CrashStatesSatisfy g desk (λ trees. IsDiskContentOfRows (sheets base) trees ⊎ (IsDiskContentOfRows (sheets other) trees × IsConsistent other))

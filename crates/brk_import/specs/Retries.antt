@@ -15,18 +15,16 @@ use Rattle.brk_io.specs.Moments.{ClockReturnsMomentsInSequence}
 use Rattle.brk_io.specs.Span.{ClockAndWriterChange}
 use Rattle.brk_import_engine.specs.Batch.{BeginsWithWholeBatch}
 
--- A batch whose first run began at `base` was retried in full, and the retry completed at `after`.
--- `one` and `two` are the changes of clock and writer in the first run and in the retry. If the
--- first run refused none of the rows that it answered, the two runs equal one uninterrupted run of
--- the batch.
+-- A batch whose first run began at `base` was retried in full, and the retry completed at `after`;
+-- `one` and `two` are the changes of clock and writer in the runs. If the first run refused no row
+-- that it answered, the two equal one uninterrupted run of the batch.
 pub record RetryCompletesBatch {C : Type 0} (form : Fields → ReadResult Command) (gives : C → ℕ → C → Type 0) (text : Option Text) (base after : Base)
     (one two : ClockAndWriterChange C) : Type 0 where
   -- The name and all rows of the batch with which `text` begins, or any if `text` is `None`.
   pub name : Text
   pub rows : List Fields
   pub whole : BeginsWithWholeBatch text name rows
-  -- The answers of the first run to the first rows, and the timestamps of these rows. No clause
-  -- relates them to the lines that the first run wrote.
+  -- The first run's answers and their timestamps; no clause relates them to the lines it wrote.
   pub answers : List Answer
   pub moments : List ℕ
   pub mid : C
@@ -43,17 +41,15 @@ pub record RetryCompletesBatch {C : Type 0} (form : Fields → ReadResult Comman
       × IsCompletedByRetry form name base (moments ++ moment ∷ []) others rows (answers ++ answer ∷ []) retry_answers after)
 
 -- A batch whose first run began at `base` was retried in full, and the retry completed at `after`.
--- `one` and `two` are the changes of clock and writer in the first run and in the retry. Whichever
--- rows the two runs refused, they are equivalent to one run of calls from `base` to `after`.
+-- Whichever rows were refused, the runs (`one`, `two`) equal one run of calls between these bases.
 pub record RunAndRetryEqualOneRun {C : Type 0} (form : Fields → ReadResult Command) (gives : C → ℕ → C → Type 0) (text : Option Text) (base after : Base)
     (one two : ClockAndWriterChange C) : Type 0 where
   -- The name and all rows of the batch with which `text` begins, or any if `text` is `None`.
   pub name : Text
   pub rows : List Fields
   pub whole : BeginsWithWholeBatch text name rows
-  -- The first rows: those that the first run answered, and the next one if it was committed but not
-  -- answered. From `base` they have these answers at these timestamps, and `mid_base` is the base
-  -- after them. No clause relates them to the lines that the first run wrote.
+  -- The rows that the first run answered, and the next one if it was committed; `mid_base` is the
+  -- base after them. No clause relates them to the lines that the first run wrote.
   pub front : List Fields
   pub back : List Fields
   pub split : rows ≡ front ++ back
@@ -82,6 +78,5 @@ pub record RunAndRetryEqualOneRun {C : Type 0} (form : Fields → ReadResult Com
       ++ answers_for_new_keys mid_base (calls_of_rows name others (well_formed_rows_from form 1 rows)) retry_calls.replies) after
   -- The base `mid_base` contains each row that the first run accepted, under its key.
   pub stored : AcceptedCallsAreStored mid_base (calls_of_rows name moments (well_formed_rows_from form 1 front)) first_calls.replies
-  -- The retry answers each row whose key `mid_base` contains with the stored line, or refuses it if
-  -- another row is stored under the key.
+  -- The retry answers a row with a key of `mid_base` by the stored line, or refuses another row.
   pub repeated : AnswersMatchStoredReplies mid_base (calls_of_rows name others (well_formed_rows_from form 1 rows)) retry_calls.replies

@@ -18,14 +18,12 @@ use Rattle.brk_model.specs.Records.{Key}
 use Rattle.brk_model.specs.Run.{Call, Do, Outcome}
 use Rattle.brk_money.specs.Spelling.{Text}
 
--- The model's call of the desk for the call of a row of a batch, with its clock reading: the
--- command of the row under its key.
+-- The call of the desk for a row of a batch at its clock reading: the row's command under its key.
 abbrev pub desk_call_of_row : ℕ × (Command × Key) → ℕ × Call
 desk_call_of_row call = (call.0, Do call.1.0 (Some call.1.1))
 
--- A call of the desk at the clock reading `now`, with the command of the row `row` under its key,
--- changed the state of the desk from `old` to `new` and had the outcome `outcome`, with the effect
--- that `OutcomePost` specifies.
+-- A call at the clock reading `now`, with the command of `row` under its key, turned the desk from
+-- `old` to `new` with the outcome `outcome`, as `OutcomePost` specifies.
 pub record RowCallHasOutcome {S : Type 0} (g : Ghosts S) (old : Held S) (now : ℕ) (row : Command × Key) (outcome : Outcome) (new : Held S) : Type 0 where
   -- The call of the desk and its outcome; in the model they are the call of the row and `outcome`.
   pub made : made.Call
@@ -34,9 +32,8 @@ pub record RowCallHasOutcome {S : Type 0} (g : Ghosts S) (old : Held S) (now : �
   pub outcome_is : model_outcome came ≡ outcome
   pub is_made : OutcomePost g old new now made came
 
--- The calls `calls` are exactly those that the batch makes for its rows, in order, each with its
--- command under its key, and the lines and the result of the batch follow from their outcomes
--- (`BatchMatchesScript`).
+-- `calls` are exactly the calls of the batch for its rows, in order, each with its command under
+-- its key; its lines and its result follow from their outcomes (`BatchMatchesScript`).
 abbrev pub BatchMatchesRowCalls : {C : Type 0} → (C → ℕ → C → Type 0) → Option Text → List (ℕ × Call) → List Outcome → ClockAndWriterChange C
     → Result Counts BatchFault → Type 0
 BatchMatchesRowCalls gives text calls outcomes outside result =

@@ -1,3 +1,5 @@
+//! A desk over a store, as the batch engine uses it.
+
 ghost use Rattle.brk_model.specs.Base.{Base};
 ghost use Rattle.brk_model.specs.Batch.{step_of_row};
 ghost use Rattle.brk_model.specs.Commands as model;

@@ -1,14 +1,9 @@
 -- The effects of a run of a batch, for each way in which it ends.
 --
--- Parameters that the traits `Rows` and `Clock` declare: `meets_disk_assumption desk`, the disk
--- assumption; `represents desk base`, the desk represents `base`;
--- `crash_exposes_only desk base other`, a crash exposes one of these two bases and no other;
--- `acts old now call outcome new`, a call turns the desk `old` into `new`; `form`, the parser of a
--- row; `step`, the model's step for a row; `gives clock moment later`, a reading of the clock.
--- `text` is the text of the batch, or `None` if it is unknown; `span` and `outside` are the desk's
--- base, the clock and the writer's content before and after the batch. A condition that bytes were
--- written (`Appends`) is vacuous if the writer's content before is unknown, and a condition on the
--- records of the text if the text is unknown.
+-- Parameters: those of specs/Answers.antt. `text` is the text of the batch, or `None` if it is
+-- unknown; `span` and `outside` are the desk's base, the clock and the writer's content before and
+-- after the batch. A condition that bytes were written (`Appends`) is vacuous if the writer's
+-- content before is unknown, and a condition on the records of the text if the text is unknown.
 use Rattle.std.specs.Prelude.{◌≡◌, ◌+◌, ◌<◌, ◌⊎◌, ◌∷◌, ◌++◌, [], IfErr, List, ℕ, Option, Result, Ok, Err, take, length, map}
 use Rattle.std.specs.Io.KnownBytes.{Appends}
 use Rattle.brk_money.specs.Spelling.{Text}
@@ -32,9 +27,8 @@ use Rattle.brk_io.specs.declared.batch_fault.FaultKind.TheVariants as kinds
 use Rattle.brk_import_engine.specs.declared.counts.Counts.{Counts}
 
 -- The batch ended with `ending` after `count` decided rows; never with `BadHeader`. The clock was
--- read exactly once for each of the timestamps `moments`, in order; at these timestamps the batch
--- of the model has the lines `lines` and leads from the base before to the base after; and exactly
--- these lines were written.
+-- read once for each of `moments`, in order; at these timestamps the batch of the model has the
+-- lines `lines` and leads from the base before to the base after; exactly these lines were written.
 pub record BatchEndsWith {S X C : Type 0} (form : Fields → ReadResult X) (step : RowStep S X) (gives : C → ℕ → C → Type 0)
     (text : Option Text) (span : EnvironmentChange S C) (ending : model.BatchEnding) (count : ℕ) : Type 0 where
   pub moments : List ℕ
@@ -43,8 +37,7 @@ pub record BatchEndsWith {S X C : Type 0} (form : Fields → ReadResult X) (step
   pub answered : model.IsResultOfTextWithHeader form step span.base moments text (record { text = lines; base = span.after; ending = ending; rows = count })
   pub written : Appends span.old span.new lines
 
--- The text begins with the header of the batch `name`, the rows `rows` and the correct end record.
--- Vacuous if the text is unknown.
+-- The text, if known, begins with the header of `name`, the rows `rows` and the correct end record.
 abbrev pub BeginsWithWholeBatch : Option Text → Text → List Fields → Type 0
 BeginsWithWholeBatch text name rows = BeginsWithRecords text (batch_header name ∷ (rows ++ (correct_end_record (length rows) ∷ [])))
 
@@ -54,11 +47,10 @@ abbrev pub HasRecordAfterRows : Option Text → Text → List Fields → Type 0
 HasRecordAfterRows text name rows = 0 < length rows → (next : Fields) × BeginsWithRecords text (batch_header name ∷ (rows ++ (next ∷ [])))
 
 -- The progress of a batch that a fault ended: the text begins with the header of the batch `name`,
--- the rows `rows` and, if there are rows, one more record. The rows have the answers `answers` in
--- the model and lead to the base after the batch. The clock was read exactly once for each of the
--- timestamps `moments`, in order, one for each well-formed row of `rows`. The list `told`, of all
--- decided answers, has `count` elements; where this record is used, another condition relates
--- `told` to `answers`.
+-- the rows `rows` and, if there are any, one more record. The rows have the answers `answers` in
+-- the model and lead to the base after the batch. The clock was read once for each of `moments`, in
+-- order, one for each well-formed row. `told`, of all decided answers, has `count` elements;
+-- another condition relates it to `answers`.
 pub record BatchProgress {S X C : Type 0} (form : Fields → ReadResult X) (step : RowStep S X) (gives : C → ℕ → C → Type 0)
     (text : Option Text) (span : EnvironmentChange S C) (count : ℕ) : Type 0 where
   -- The name of the batch, its first rows with their answers, and all decided answers.
@@ -70,24 +62,21 @@ pub record BatchProgress {S X C : Type 0} (form : Fields → ReadResult X) (step
   pub moments : List ℕ
   pub mid : C
   pub taken : ClockReturnsMomentsInSequence gives span.clock moments mid
-  -- From the base before, the rows have these answers in the model, at these timestamps, and the
-  -- base after them is the base after the batch.
+  -- From the base before, the rows have these answers in the model, and lead to the base after.
   pub settled : model.BatchRowsAreDecided form step name span.base moments rows answers span.after
   pub begins : BeginsWithRecords text (batch_header name ∷ rows)
   -- If there are rows, one more record follows them.
   pub next : HasRecordAfterRows text name rows
   pub counted : count ≡ length told
 
--- The lines of all answers in `told` were written, or the lines of all of them but the last, and
--- nothing else. Vacuous if the writer's content before is unknown.
+-- Exactly the lines of `told`, all or all but the last, were written. Vacuous on unknown content.
 abbrev pub WritesAllLinesOrAllButLast : Option Text → Option Text → List Answer → Type 0
 WritesAllLinesOrAllButLast old new told =
     Appends old new (answer_lines_from 1 told)
     ⊎ ((front : List Answer) × (last : Answer) × (told ≡ front ++ (last ∷ [])) × Appends old new (answer_lines_from 1 front))
 
--- The lines of all answers in `told` but the last were written, and then a prefix of the line of
--- the last, perhaps empty or all of it. If the writer's content before is unknown, it states only
--- that `told` is not empty.
+-- The lines of `told` but the last were written, and a prefix of the last, perhaps empty or all of
+-- it. If the writer's content before is unknown, it states only that `told` is not empty.
 abbrev pub WritesPartOfLastLine : Option Text → Option Text → List Answer → Type 0
 WritesPartOfLastLine old new told =
     (front : List Answer) × (last : Answer) × (k : ℕ) × (told ≡ front ++ (last ∷ []))
@@ -99,21 +88,19 @@ abbrev pub WritesPartOfEndLine : Option Text → Option Text → List Answer →
 WritesPartOfEndLine old new told = (k : ℕ) × Appends old new (answer_lines_from 1 told ++ take k (batch_end_line told))
 
 -- The answers `told` equal `answers`; or the text ends without an end record
--- (`EndsWithoutEndRecord`). In the second case, either the text ends after the header of the batch
--- `name`, the rows `rows` and one more row, and `told` is `answers` followed by the refusal
--- `BadText` of this last row; or the text has only the header, and `rows` and `told` are empty. The
--- conditions on the text are vacuous if it is unknown.
+-- (`EndsWithoutEndRecord`): either after the header of `name`, the rows `rows` and one more row,
+-- and `told` is `answers` followed by the refusal `BadText` of this row; or after the header, and
+-- `rows` and `told` are empty. Conditions on the text are vacuous if it is unknown.
 abbrev pub MayAddLastRowRefusal : Option Text → Text → List Fields → List Answer → List Answer → Type 0
 MayAddLastRowRefusal text name rows answers told = (told ≡ answers) ⊎ model.EndsWithoutEndRecord text name rows answers told
 
 -- The batch failed with this fault after `count` decided rows. `BadHeader`: the text has no header,
--- no row was decided, and nothing changed. `NoEnd` and `BadEnd`: the batch ends as that of the
--- model (`BatchEndsWith`). `Read`: the lines of all decided rows were written, or no row was
--- decided and nothing changed. `Write`: all lines but the last and a part of the last one were
--- written, or all lines and a part of the end line; a part may be empty or whole. `Desk`: memory
--- ran out, no row was decided, and nothing changed; or the fault is `Memory` or `Store`, the lines
--- of the decided rows were written, and the clock was read at most once more; or memory ran out,
--- and the lines of the decided rows were written, or of all of them but the last.
+-- and nothing was decided or changed. `NoEnd`, `BadEnd`: it ends as the model's (`BatchEndsWith`).
+-- `Read`: the lines of all decided rows were written, or nothing was decided or changed. `Write`:
+-- all lines but the last and a part of it, or all lines and a part of the end line, were written; a
+-- part may be empty or whole. `Desk`: memory ran out, and nothing was decided or changed; or, after
+-- `Memory` or `Store`, the decided rows' lines were written, and the clock was read at most once
+-- more; or memory ran out, and these lines, or all but the last, were written.
 abbrev pub BatchFailsWith : {S X C : Type 0} → (Fields → ReadResult X) → RowStep S X → (C → ℕ → C → Type 0) → Option Text → EnvironmentChange S C → ℕ
     → FaultKind → Type 0
 BatchFailsWith form step gives text span count kinds.BadHeader =
@@ -136,9 +123,8 @@ BatchFailsWith form step gives text span count (kinds.Desk fault) =
     ⊎ ((s : BatchProgress form step gives text span count) × (span.later ≡ s.mid) × (fault ≡ Memory)
     × MayAddLastRowRefusal text s.name s.rows s.answers s.told × WritesAllLinesOrAllButLast span.old span.new s.told))
 
--- The result of the batch: at `Ok` the batch ended with the correct end record (`BatchEndsWith`),
--- and the counts are the numbers of accepted, repeated and refused answers to all its rows; at an
--- error the fault has the effect that `BatchFailsWith` specifies.
+-- The result of the batch: at `Ok` it ended with the correct end record (`BatchEndsWith`), and the
+-- counts are of its accepted, repeated and refused answers; an error is as in `BatchFailsWith`.
 abbrev pub IsBatchResult : {S X C : Type 0} → (Fields → ReadResult X) → RowStep S X → (C → ℕ → C → Type 0) → Option Text → EnvironmentChange S C
     → Result Counts BatchFault → Type 0
 IsBatchResult form step gives text span (Ok counts) =
@@ -178,10 +164,9 @@ DeskFaultIsMemory kinds.BadEnd = Unit {0}
 DeskFaultIsMemory kinds.Read = Unit {0}
 DeskFaultIsMemory kinds.Write = Unit {0}
 
--- Every outcome of `script` is an answer. A desk of the model that returns these answers, in order
--- and all of them, and records its calls (`recording_step`), receives exactly the calls of `script`
--- from the batch, and the lines and the result follow from the answers. If the result is a fault of
--- the desk, the fault is `Memory`.
+-- Every outcome of `script` is an answer. A model desk that returns exactly these answers and
+-- records its calls (`recording_step`) receives exactly the calls of `script` from the batch, and
+-- the lines and the result follow from the answers. A fault of the desk is `Memory`.
 abbrev pub BatchMatchesAnsweredScript : {X C : Type 0} → (Fields → ReadResult X) → (C → ℕ → C → Type 0) → Option Text → RowCallScript X → ClockAndWriterChange C
     → Result Counts BatchFault → Type 0
 BatchMatchesAnsweredScript form gives text script outside result =
@@ -189,10 +174,9 @@ BatchMatchesAnsweredScript form gives text script outside result =
     × IsBatchResult form recording_step gives text (environment_change_with_bases (answers, []) ([], script.0) outside) result
     × IfErr result (λ fault. DeskFaultIsMemory fault.kind)
 
--- The last call of `script` failed with a fault, `Memory` or `Store`, which ended the batch. It is
--- the call of the row after the decided rows, under the key of that row. All outcomes before it are
--- answers, and the calls before it, the lines and the result follow from these answers. False if
--- the batch completed.
+-- The last call of `script`, of the row after the decided rows under its key, failed with `Memory`
+-- or `Store`, which ended the batch. All earlier outcomes are answers, and the earlier calls, the
+-- lines and the result follow from them. False if the batch completed.
 abbrev pub BatchMatchesFailedScript : {X C : Type 0} → (Fields → ReadResult X) → (C → ℕ → C → Type 0) → Option Text → RowCallScript X → ClockAndWriterChange C
     → Result Counts BatchFault → Type 0
 BatchMatchesFailedScript form gives text script outside (Ok counts) = ⊥
@@ -202,27 +186,24 @@ BatchMatchesFailedScript {X = X} form gives text script outside (Err fault) =
     × (script.0 ≡ calls ++ ((failed.moment, (failed.command, record { batch = failed.stopped.name; n = fault.rows + 1 })) ∷ []))
     × (script.1 ≡ map Did answers ++ (Failed failed.cause ∷ []))
 
--- The calls of `script` are the calls of the rows of the batch, in order: row n of batch NAME, if
--- it is decided and well-formed and has a record after it, is called once, under the key (NAME, n),
--- and one more call may have failed at the end. The clock was read exactly once for each call. The
--- lines and the result follow from the outcomes.
+-- The calls of `script` are the batch's, in order: row n of batch NAME, if it is decided and
+-- well-formed and has a record after it, is called once, under the key (NAME, n); one more call may
+-- have failed last. The clock is read once for each; lines and result follow from the outcomes.
 abbrev pub BatchMatchesScript : {X C : Type 0} → (Fields → ReadResult X) → (C → ℕ → C → Type 0) → Option Text → RowCallScript X → ClockAndWriterChange C
     → Result Counts BatchFault → Type 0
 BatchMatchesScript form gives text script outside result =
     ClockReturnsMomentsInSequence gives outside.clock (map (λ call. call.0) script.0) outside.later
     × (BatchMatchesAnsweredScript form gives text script outside result ⊎ BatchMatchesFailedScript form gives text script outside result)
 
--- The desk changed from `first` to `last` only by the calls of some script, with their outcomes,
--- and this script matches the batch (`BatchMatchesScript`), whether or not the disk assumption
--- holds.
+-- The desk changed from `first` to `last` only by the calls of some script that matches the batch
+-- (`BatchMatchesScript`), whether or not the disk assumption holds.
 abbrev pub ChangesOnlyByRowCalls : {D X C : Type 0} → RowCallRelation D X → (Fields → ReadResult X) → (C → ℕ → C → Type 0) → Option Text → D → D
     → ClockAndWriterChange C → Result Counts BatchFault → Type 0
 ChangesOnlyByRowCalls {X = X} acts form gives text first last outside result =
     (script : RowCallScript X) × IsCallSequence acts first script.0 script.1 last × BatchMatchesScript form gives text script outside result
 
--- The batch refines the model: for every base that the desk represented before, the lines and the
--- result follow from the answers of `step` from this base, and the desk represents the base after
--- the decided rows. Vacuous if the disk assumption (`meets_disk_assumption`) fails after the batch.
+-- The batch refines the model: for every represented base, lines and result follow from the answers
+-- of `step`, and the desk represents the base after. Vacuous if the disk assumption fails.
 abbrev pub BatchRefinesModel : {D S X C : Type 0} → (D → Type 0) → (D → S → Type 0) → (Fields → ReadResult X) → RowStep S X → (C → ℕ → C → Type 0) → Option Text
     → D → D → ClockAndWriterChange C → Result Counts BatchFault → Type 0
 BatchRefinesModel {S = S} meets_disk_assumption represents form step gives text first last outside result =
@@ -245,11 +226,10 @@ BoundsBatchCrashStates form step gives crash_exposes_only text span last (Ok cou
 BoundsBatchCrashStates form step gives crash_exposes_only text span last (Err fault) =
     crash_exposes_only last span.after span.after ⊎ CrashMayCommitFailedRow form step gives crash_exposes_only text span last fault
 
--- Crash safety of a batch: for every base that the desk represented before, if a crash before the
--- batch exposed only this base, the lines and the result follow from the answers of `step` from
--- this base, and the desk represents the base after the decided rows. A crash then exposes only the
--- base after the decided rows, or after a fault also the base after the row whose call failed.
--- Vacuous if the disk assumption (`meets_disk_assumption`) fails after the batch.
+-- Crash safety of a batch: for every base that the desk represented, if a crash before the batch
+-- exposed only this base, lines and result follow from the answers of `step`, the desk represents
+-- the base after the decided rows, and a crash exposes only that base, or after a fault also the
+-- base after the row whose call failed. Vacuous if the disk assumption fails after the batch.
 abbrev pub IsBatchCrashSafe : {D S X C : Type 0} → (D → Type 0) → (D → S → Type 0) → (D → S → S → Type 0) → (Fields → ReadResult X) → RowStep S X
     → (C → ℕ → C → Type 0) → Option Text → D → D → ClockAndWriterChange C → Result Counts BatchFault → Type 0
 IsBatchCrashSafe {S = S} meets_disk_assumption represents crash_exposes_only form step gives text first last outside result =

@@ -11,8 +11,7 @@ use Rattle.brk_import_engine.specs.declared.counts.Counts.{Counts}
 abbrev pub counts_of_answers : List Answer → Counts
 counts_of_answers answers = record { ok = done_answer_count answers; again = repeated_answer_count answers; no = refused_answer_count answers }
 
--- The counts `counts` with 1 added to the number that counts answers of the kind of `answer`:
--- accepted, repeated or refused.
+-- `counts` with 1 added to the number of answers of the kind of `answer`.
 abbrev pub counts_with_answer : Counts → Answer → Counts
 counts_with_answer counts answer = record {
   ok = counts.ok + (if is_done_answer answer then 1 else 0);

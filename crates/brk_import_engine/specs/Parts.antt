@@ -14,9 +14,8 @@ use Rattle.brk_io.specs.declared.batch_fault.FaultKind.{FaultKind}
 use Rattle.brk_io.specs.declared.batch_fault.FaultKind.TheVariants as kinds
 use Rattle.brk_import_engine.specs.declared.counts.Counts.{Counts}
 
--- Writing the line `text` failed with this fault. `Write`: the writer received a prefix of the
--- line, perhaps all of it. `Desk`: memory ran out, and nothing was written. No other fault is
--- possible.
+-- Writing the line `text` failed. `Write`: the writer received a prefix, perhaps all of it. `Desk`:
+-- memory ran out, and nothing was written. No other fault is possible.
 abbrev pub LineWriteFailsWith : Option Text → Option Text → Text → FaultKind → Type 0
 LineWriteFailsWith old new text kinds.Write = (k : ℕ) × Appends old new (take k text)
 LineWriteFailsWith old new text (kinds.Desk fault) = (fault ≡ Memory) × Appends old new []
@@ -25,10 +24,9 @@ LineWriteFailsWith old new text kinds.BadHeader = ⊥
 LineWriteFailsWith old new text kinds.NoEnd = ⊥
 LineWriteFailsWith old new text kinds.BadEnd = ⊥
 
--- Checking the end record `row` after `n` rows, and writing the end line with `counts`, failed with
--- this fault. `BadEnd`: the record is wrong, and nothing was written. `Write`: the record is
--- correct, and the writer received a prefix of the end line, perhaps all of it. `Desk`: memory ran
--- out, and nothing was written. No other fault is possible.
+-- Checking the end record `row` after `n` rows, and writing the end line with `counts`, failed.
+-- `BadEnd`: the record is wrong, nothing was written. `Write`: it is correct, and a prefix of the
+-- end line was written, perhaps all. `Desk`: memory ran out, nothing was written. No other fault.
 abbrev pub EndRecordFailsWith : Option Text → Option Text → Fields → ℕ → Counts → FaultKind → Type 0
 EndRecordFailsWith old new row n counts kinds.BadEnd = (row ≡ correct_end_record n → ⊥) × Appends old new []
 EndRecordFailsWith old new row n counts kinds.Write = (row ≡ correct_end_record n) × ((k : ℕ) × Appends old new (take k (end_line_with_counts counts)))
@@ -48,9 +46,8 @@ LastRowEndsBatchWith old new text kinds.Read = ⊥
 LastRowEndsBatchWith old new text kinds.BadHeader = ⊥
 LastRowEndsBatchWith old new text kinds.BadEnd = ⊥
 
--- Reading the header of the text failed with this fault. `BadHeader`: the text has no header, which
--- is vacuous if the text is unknown. `Desk`: the fault is `Memory`. `Read`: nothing is specified of
--- the text. No other fault is possible.
+-- Reading the header failed. `BadHeader`: the text has no header (vacuous if it is unknown).
+-- `Desk`: the fault is `Memory`. `Read`: nothing is specified of the text. No other fault.
 abbrev pub HeaderReadFailsWith : Option Text → FaultKind → Type 0
 HeaderReadFailsWith text kinds.BadHeader = HasNoHeader text
 HeaderReadFailsWith text kinds.Read = Unit {0}

@@ -8,15 +8,13 @@ use Rattle.csv.specs.declared.parser.State.TheVariants as st
 use Rattle.brk_money.specs.Spelling.{Text}
 use Rattle.brk_model.specs.Answers.{Fields}
 
--- The reader has the settings for a batch: it does not trim fields, uses the default CSV format,
--- and accepts records with any number of fields. Its next read reads and returns one record, and
--- takes none as a header (`Ready`).
+-- The reader has the settings for a batch: no trimming of fields, the default CSV format, any
+-- number of fields in a record; its next read returns one record, none taken as a header (`Ready`).
 abbrev pub IsBatchReader : {R : Type 0} → Reader R → Type 0
 IsBatchReader reader = (reader_trim reader ≡ trim.None) × Ready reader × (reader_config reader ≡ default_config) × (is_flexible reader ≡ true)
 
 -- The text begins with the records `front`, and a CSV reader in the state `state` has read exactly
--- these: `left` are the bytes after them that its source still has. Vacuous if the text is unknown;
--- false if only `left` is unknown.
+-- these and still has `left`. Vacuous if the text is unknown; false if only `left` is unknown.
 abbrev pub ReaderIsAfterRecords : Option Text → List Fields → State → Option Text → Type 0
 ReaderIsAfterRecords None front state left = Unit {0}
 ReaderIsAfterRecords (Some text) front state None = ⊥

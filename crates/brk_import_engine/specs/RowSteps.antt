@@ -1,5 +1,4 @@
--- The steps of a batch at the row after its decided rows: reading it, reading the record after it,
--- and executing it with its line.
+-- The steps of a batch at its next row: reading it and the record after it, executing it.
 --
 -- Parameters: those of specs/Answers.antt; `rem reader`, the bytes that the source of a reader
 -- still has; `settled`, the number of decided rows; `outside`, the clock and the writer's content
@@ -29,8 +28,7 @@ use Rattle.brk_io.specs.declared.batch_fault.FaultKind.{FaultKind}
 use Rattle.brk_io.specs.declared.batch_fault.FaultKind.TheVariants as kinds
 use Rattle.brk_import_engine.specs.declared.counts.Counts.{Counts}
 
--- In every text, if the reader `old` has read exactly the first records `before`, then the reader
--- `new` has read exactly these and the record `row` after them.
+-- In every text, if `old` has read exactly the first records `before`, `new` has also read `row`.
 abbrev pub ReadsOneRecord : {R : Type 0} → (R → Option Text) → Reader R → Reader R → Fields → Type 0
 ReadsOneRecord rem old new row =
     (text : Option Text) (before : List Fields) → ReaderIsAfterRecords text before (reader_state old) (source_of rem old)
@@ -41,32 +39,28 @@ abbrev pub HasNoRecordLeft : {R : Type 0} → (R → Option Text) → Reader R �
 HasNoRecordLeft rem reader =
     (text : Option Text) (before : List Fields) → ReaderIsAfterRecords text before (reader_state reader) (source_of rem reader) → HasExactlyRecords text before
 
--- The fault `kind` is one of reading a record: `Read`, the reader failed, or `Desk(Memory)`, memory
--- ran out.
+-- The fault `kind` is one of reading a record: `Read`, or `Desk(Memory)`.
 abbrev pub IsReadFault : FaultKind → Type 0
 IsReadFault kind = (kind ≡ kinds.Read) ⊎ (kind ≡ kinds.Desk Memory)
 
--- The batch ended with `fault` at the read of the first record after the header, before any row was
--- decided: either with `NoEnd`, and then no record is left, or with a fault of reading
--- (`IsReadFault`).
+-- The batch ended with `fault` at the read of the first record after the header: with `NoEnd`, and
+-- no record is left, or with a fault of reading (`IsReadFault`). No row was decided.
 abbrev pub FirstReadEndsBatchWith : {R : Type 0} → (R → Option Text) → Reader R → BatchFault → Type 0
 FirstReadEndsBatchWith rem reader fault =
     ((fault ≡ record { rows = 0; kind = kinds.NoEnd }) × HasNoRecordLeft rem reader)
     ⊎ ((kind : FaultKind) × (fault ≡ record { rows = 0; kind = kind }) × IsReadFault kind)
 
--- The batch ended with `fault` at the read of the record after the row `settled + 1`. Either the
--- fault is one of reading (`IsReadFault`), the row is not decided, and nothing was written; or no
--- record is left, the row is decided and refused with `BadText`, and its line was written or
--- writing it failed (`LastRowEndsBatchWith`).
+-- The batch ended with `fault` at the read of the record after the row `settled + 1`: by a fault of
+-- reading (`IsReadFault`), the row not decided and nothing written; or no record is left, the row
+-- is refused with `BadText`, and its line was written or failed (`LastRowEndsBatchWith`).
 abbrev pub NextReadEndsBatchWith : {R : Type 0} → (R → Option Text) → Reader R → ℕ → Option Text → Option Text → BatchFault → Type 0
 NextReadEndsBatchWith rem reader settled old new fault =
     ((kind : FaultKind) × (fault ≡ record { rows = settled; kind = kind }) × IsReadFault kind × (new ≡ old))
     ⊎ ((kind : FaultKind) × (fault ≡ record { rows = settled + 1; kind = kind }) × HasNoRecordLeft rem reader
     × LastRowEndsBatchWith old new (answer_line (settled + 1) (Refused BadText)) kind)
 
--- The row is decided and its line was written: the row has an answer, the line of the answer was
--- appended to the writer's content, and the counts `more` are `counts` with this answer added. The
--- clause on the line is vacuous if the writer's content before is unknown.
+-- The row is decided: it has an answer, whose line was appended to the writer's content (vacuous if
+-- that is unknown before), and `more` are the counts `counts` with this answer.
 pub record RowIsDecidedAndWritten {D S X C : Type 0} (meets_disk_assumption : D → Type 0) (represents : D → S → Type 0)
     (crash_exposes_only : D → S → S → Type 0) (acts : RowCallRelation D X) (step : RowStep S X) (gives : C → ℕ → C → Type 0)
     (read : ReadResult X) (batch : Text) (settled : ℕ) (first last : D) (outside : ClockAndWriterChange C) (counts more : Counts) : Type 0 where
@@ -76,9 +70,8 @@ pub record RowIsDecidedAndWritten {D S X C : Type 0} (meets_disk_assumption : D 
   pub written : Appends outside.old outside.new (answer_line (settled + 1) answer)
   pub counted : more ≡ counts_with_answer counts answer
 
--- The row was not decided, and the batch ended with `fault`, a fault of the desk, `Memory` or
--- `Store`: the row failed (`RowFailsWith`), the desk represents the bases that it represented
--- before, unless the disk assumption fails (`PreservesRepresentedBases`), and nothing was written.
+-- The row failed (`RowFailsWith`) and is not decided, and the batch ended with `fault`, `Memory` or
+-- `Store`; the represented bases remain (`PreservesRepresentedBases`), and nothing was written.
 pub record RowIsNotDecided {D S X C : Type 0} (meets_disk_assumption : D → Type 0) (represents : D → S → Type 0)
     (crash_exposes_only : D → S → S → Type 0) (acts : RowCallRelation D X) (step : RowStep S X) (gives : C → ℕ → C → Type 0)
     (read : ReadResult X) (batch : Text) (settled : ℕ) (first last : D) (outside : ClockAndWriterChange C) (fault : BatchFault) : Type 0 where
@@ -102,8 +95,7 @@ pub record RowLineWriteFails {D S X C : Type 0} (meets_disk_assumption : D → T
   pub is : fault ≡ record { rows = settled + 1; kind = kind }
   pub part : LineWriteFailsWith outside.old outside.new (answer_line (settled + 1) answer) kind
 
--- The batch ended with `fault` at the row after the decided rows: the row was not decided, or it
--- was decided and writing its line failed.
+-- The batch ended with `fault` at its next row: it was not decided, or writing its line failed.
 abbrev pub RowEndsBatchWith : {D S X C : Type 0} → (D → Type 0) → (D → S → Type 0) → (D → S → S → Type 0) → RowCallRelation D X → RowStep S X
     → (C → ℕ → C → Type 0) → ReadResult X → Text → ℕ → D → D → ClockAndWriterChange C → BatchFault → Type 0
 RowEndsBatchWith meets_disk_assumption represents crash_exposes_only acts step gives read batch settled first last outside fault =

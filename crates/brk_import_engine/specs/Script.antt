@@ -6,8 +6,7 @@ use Rattle.brk_model.specs.Commands.{Answer, Refused}
 use Rattle.brk_model.specs.Records.{Key}
 use Rattle.brk_model.specs.Run.{Outcome}
 
--- The type of a relation between two desks of type `D`: at a clock reading, the call with a command
--- of type `X` under a key may turn the first desk into the second, with an outcome.
+-- The type of a call's relation: desk before, reading, command and key, outcome, desk after.
 abbrev pub RowCallRelation : Type 0 → Type 0 → Type 1
 RowCallRelation D X = D → ℕ → X × Key → Outcome → D → Type 0
 
@@ -19,9 +18,8 @@ RowCalls X = List (ℕ × (X × Key))
 abbrev pub RowCallScript : Type 0 → Type 0
 RowCallScript X = RowCalls X × List Outcome
 
--- The step of a model desk whose state is a list of answers and a list of recorded calls. Each call
--- returns and removes the first answer, or is refused with `BadText` if no answer is left, and is
--- appended to the recorded calls.
+-- The step of a model desk of answers and recorded calls: each call returns and removes the first
+-- answer, or is refused with `BadText` if none is left, and is recorded at the end.
 abbrev pub recording_step : {X : Type 0} → RowStep (List Answer × RowCalls X) X
 recording_step ([], calls) now command key = (Refused BadText, ([], calls ++ ((now, (command, key)) ∷ [])))
 recording_step (answer ∷ answers, calls) now command key = (answer, (answers, calls ++ ((now, (command, key)) ∷ [])))

@@ -1,3 +1,5 @@
+//! The execution of one row of a batch on the desk, under its key, and its answer.
+
 ghost use Rattle.std.specs.Prelude.{◌≡◌, ◌≤◌, IfErr, IfOk, OnErr};
 ghost use Rattle.csv.specs.Records.{fields_of};
 ghost use Rattle.brk_model.specs.Input.{most_input_bytes};

@@ -1,3 +1,6 @@
+//! The engine of a batch: reads the header, then the records, one ahead of the row that it
+//! executes, and writes the line of each row and the end line.
+
 ghost use Rattle.std.specs.Prelude.{◌≡◌, ◌+◌, ◌<◌, ◌∷◌, [], ℕ, List, Option, IfOk, IfErr, OnOk, option_map};
 ghost use Rattle.std.specs.Io.KnownBytes.{Appends};
 ghost use Rattle.csv.specs.Reading.{reader_state, source_of};
@@ -17,7 +20,7 @@ use crate::answer::execute_row;
 use crate::counts::Counts;
 use crate::lines::{counts_line, row_answer_line};
 use crate::records::{
-    MAXIMUM_INPUT_BYTES, batch_in_header, begins_with_end, is_correct_end, read_record,
+    MAXIMUM_INPUT_BYTES, begins_with_end, is_correct_end, parse_header_name, read_record,
     record_reader,
 };
 use crate::rows::Rows;
@@ -58,7 +61,8 @@ fn refuse_last_row<W: Write, D: Rows>(alloc: Global, writer: &mut W, n: u64) -> 
     }
 }
 
-fn finish<W: Write>(
+// Writes the end line if the end record has the number `n` of rows; otherwise fails with `BadEnd`.
+fn answer_end_record<W: Write>(
     alloc: Global,
     writer: &mut W,
     row: &ByteRecord,
@@ -109,14 +113,18 @@ fn read_batch_name<R: Read>(alloc: Global, records: &mut Reader<R>) -> Result<Ba
     if !read_record(records, &mut header)? {
         return Err(FaultKind::BadHeader);
     }
-    match batch_in_header(alloc, &header) {
+    match parse_header_name(alloc, &header) {
         Ok(Some(name)) => Ok(name),
         Ok(None) => Err(FaultKind::BadHeader),
         Err(_) => Err(FaultKind::Desk(Fault::Memory)),
     }
 }
 
-fn read_first<R: Read>(records: &mut Reader<R>, row: &mut ByteRecord) -> Result<(), BatchFault>
+// Fails with `NoEnd` if there is no such record.
+fn read_record_after_header<R: Read>(
+    records: &mut Reader<R>,
+    row: &mut ByteRecord,
+) -> Result<(), BatchFault>
     requires { IsBatchReader records.old }
     ensures setup { OnOk result (IsBatchReader records.new) }
     ensures read { OnOk result (ReadsOneRecord R.remaining records.old records.new (fields_of row.new)) }
@@ -168,6 +176,7 @@ fn look_ahead<R: Read, W: Write, D: Rows>(
     Ok(())
 }
 
+// Executes row `settled + 1`, and writes the line of its answer.
 fn answer_row<W: Write, C: Clock, D: Rows>(
     alloc: Global,
     name: &BatchName,
@@ -223,10 +232,10 @@ fn answer_rows<R: Read, W: Write, C: Clock, D: Rows>(
     let mut counts = Counts::NONE;
     let mut row = ByteRecord::new(alloc);
     let mut after = ByteRecord::new(alloc);
-    read_first(records, &mut row)?;
+    read_record_after_header(records, &mut row)?;
     for settled in 0..MAXIMUM_INPUT_BYTES {
         if begins_with_end(&row) {
-            finish(alloc, writer, &row, settled, counts)?;
+            answer_end_record(alloc, writer, &row, settled, counts)?;
             return Ok(counts);
         }
         look_ahead::<R, W, D>(alloc, records, writer, settled, &mut after)?;

@@ -1,3 +1,5 @@
+//! The lines that a batch writes: those of the answers to rows, and the end line with the counts.
+
 ghost use Rattle.std.specs.Prelude.{◌≡◌, IfOk, string_bytes};
 ghost use Rattle.brk_model.specs.Commands.{Reply};
 ghost use Rattle.brk_model.specs.Lines.{answer_line, answer_text};

@@ -1,3 +1,6 @@
+//! The records of the input of a batch: read in order, and tested for the header and the end
+//! record.
+
 ghost use Rattle.std.specs.Prelude.{◌≡◌, ◌⊎◌, ◌↔◌, ◌∷◌, ◌++◌, [], ℕ, List, Option, Some, IsTrue, IfOk};
 ghost use Rattle.std.specs.Prelude.{IfErr, OnOk, MatchBool, MatchOption, option_map};
 ghost use Rattle.std.specs.Io.Take.{take_remaining};
@@ -111,7 +114,7 @@ pub fn is_correct_end(row: &ByteRecord, n: u64) -> bool
 
 /// Returns the name of the batch if the record is exactly `batch` and a well-formed name.
 #[tactic(auto, using(crate::proofs::Reading::header_name_is))]
-pub fn batch_in_header(alloc: Global, row: &ByteRecord) -> Result<Option<BatchName>, AllocError>
+pub fn parse_header_name(alloc: Global, row: &ByteRecord) -> Result<Option<BatchName>, AllocError>
     ensures header { IfOk result (λ found. MatchOption found
         ((name : List ℕ) → IsBatchName name → fields_of row.now ≡ batch_header name → ⊥)
         (λ name. IsBatchName name × (fields_of row.now ≡ batch_header name))) }

@@ -1,3 +1,6 @@
+//! The desk of a batch as a trait: it parses rows, executes them under their keys, and formats
+//! replies.
+
 ghost use Rattle.std.specs.Prelude.{◌≡◌, Bool, Err, IfErr, IfOk, OnErr, string_bytes};
 ghost use Rattle.brk_money.specs.declared.fault.Fault.TheVariants.{Memory};
 ghost use Rattle.brk_model.specs.Answers.{Fields, RowStep};

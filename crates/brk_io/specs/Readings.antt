@@ -7,13 +7,11 @@ use Rattle.brk_money.specs.Moments.{greatest_stamp}
 use Rattle.brk_io.specs.declared.program_clock.ProgramClock.{ProgramClock}
 use Rattle.brk_io.specs.declared.program_clock.ProgramClock.TheVariants as clocks
 
--- The stamp of a time: its whole milliseconds since 1970-01-01 UTC, or the greatest stamp if the
--- time is later than this stamp.
+-- The stamp of a time: whole milliseconds since 1970-01-01 UTC, at most the greatest stamp.
 abbrev pub stamp_of_time : SystemTime → ℕ
 stamp_of_time time = min (system_time_nanos time / 1000000) greatest_stamp
 
--- The clock of the program: one that always returns the given timestamp, or the clock `machine` of
--- the machine if there is no timestamp.
+-- The clock of the program: fixed at the given timestamp or, without one, the clock `machine`.
 abbrev pub program_clock : {R : Type 0} → Bor R → Option ℕ → ProgramClock R
 program_clock machine (Some stamp) = clocks.At stamp
 program_clock machine None = clocks.Machine machine

@@ -1,12 +1,10 @@
--- The environment of an engine, which executes the rows of a batch or of a stream, before and after
--- the engine ran.
+-- The environment of an engine, which executes rows of a batch or stream, before and after a run.
 use Rattle.std.specs.Prelude.{◌≡◌, [], Option}
 use Rattle.std.specs.Io.KnownBytes.{Appends}
 use Rattle.brk_money.specs.Spelling.{Text}
 
--- A change of an engine's environment: the desk's base (`base`, `after`), the clock (`clock`,
--- `later`) and the writer's content (`old`, `new`), each before and after. A content is `None` if
--- no contract specifies it.
+-- A change of an engine's environment: the desk's base, the clock and the writer's content, each
+-- before and after. A content is `None` if no contract specifies it.
 pub record EnvironmentChange (S C : Type 0) : Type 0 where
   pub base : S
   pub after : S
@@ -15,9 +13,8 @@ pub record EnvironmentChange (S C : Type 0) : Type 0 where
   pub old : Option Text
   pub new : Option Text
 
--- The change `span` changes nothing: the desk's base after it equals the base before it, the clock
--- after it equals the clock before it, and nothing was written. The condition on the writer is
--- vacuous if its content before is unknown (`None`), and false if only its content after is `None`.
+-- The change `span` changes neither base nor clock, and nothing was written: vacuous if the
+-- writer's content before is unknown (`None`), and false if only its content after is `None`.
 pub record IsUnchangedEnvironment {S C : Type 0} (span : EnvironmentChange S C) : Type 0 where
   pub base : span.after ≡ span.base
   pub clock : span.later ≡ span.clock
@@ -31,8 +28,7 @@ pub record ClockAndWriterChange (C : Type 0) : Type 0 where
   pub old : Option Text
   pub new : Option Text
 
--- The change of an environment that consists of the change `outside` of the clock and the writer,
--- and of the desk's bases `base` before it and `after` after it.
+-- The change of an environment by `outside` (clock, writer) and from the base `base` to `after`.
 abbrev pub environment_change_with_bases : {S C : Type 0} → S → S → ClockAndWriterChange C → EnvironmentChange S C
 environment_change_with_bases base after outside = record {
   base = base;

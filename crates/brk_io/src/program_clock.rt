@@ -29,7 +29,7 @@ pub fn system_stamp(time: SystemTime) -> Stamp
 }
 
 // Returns 0 if the clock cannot be read or is set before 1970.
-fn machine_stamp<R: rt::Clock>(clock: &R) -> Stamp {
+fn read_machine_clock<R: rt::Clock>(clock: &R) -> Stamp {
     match SystemTime::now(clock) {
         Ok(time) => system_stamp(time),
         Err(_) => Stamp::nearest(0),
@@ -56,7 +56,7 @@ impl<R: rt::Clock> Clock for ProgramClock<'_, R> {
     fn now(&mut self) -> Stamp {
         match self {
             ProgramClock::At(stamp) => *stamp,
-            ProgramClock::Machine(clock) => machine_stamp(*clock),
+            ProgramClock::Machine(clock) => read_machine_clock(*clock),
         }
     }
 }

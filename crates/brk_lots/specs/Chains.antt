@@ -7,9 +7,8 @@ use Rattle.brk_lots.specs.HistoryRows.{has_quantity_change, lot_history_rows_per
 use Rattle.brk_lots.specs.declared.replay.DealTouch.{DealTouch}
 use Rattle.brk_lots.specs.Lots.{list_reversed_if_lifo}
 
--- The changes of the lot that the trade with the id `trade` opens, by the deals `ds`, which are
--- applied in sequence to the position with the shares `us`: one change for each deal that changes
--- the quantity of the lot, in the sequence of the deals.
+-- The changes, by the deals `ds`, applied in sequence to the shares `us`, of the lot that the trade
+-- opens: one for each deal that changes its quantity, in the sequence of the deals.
 abbrev pub changes_of_lot : ℕ → List Deal → List Share → List Touch
 changes_of_lot trade ds us = map touch_of_row (filter has_quantity_change (lot_history_rows_per_deal trade us ds))
 
@@ -25,8 +24,7 @@ ShrinksTowardZero from [] to = from ≡ to
 ShrinksTowardZero from (row ∷ rows) to = (row.before ≡ from) × IsNearerToZero row.after row.before × ShrinksTowardZero row.after rows to
 
 -- The changes are the history of a lot that ends at `to`: the first starts at 0 and ends at any
--- quantity, each later one starts where the one before it ended and ends strictly nearer to 0, at 0
--- or with the sign with which it starts, and the last ends at `to`. Without changes `to` is 0.
+-- quantity, the later ones continue as `ShrinksTowardZero` specifies. Without changes `to` is 0.
 abbrev pub IsLotHistory : List Touch → ℤ → Type 0
 IsLotHistory [] to = pos 0 ≡ to
 IsLotHistory (row ∷ rows) to = (row.before ≡ pos 0) × ShrinksTowardZero row.after rows to
@@ -35,16 +33,14 @@ IsLotHistory (row ∷ rows) to = (row.before ≡ pos 0) × ShrinksTowardZero row
 abbrev pub opening_touch : Lot → Touch
 opening_touch l = record { lot = l.trade; before = pos 0; after = l.qty }
 
--- The HOLDING_HISTORY rows of the deal `d` on the shares `us`: a row for each lot of `us` whose
--- quantity it changes, in the sequence of the lots' first shares, reversed if `d.is_lifo`, and then
--- a row for the lot that it opens, if it opens any share.
+-- The HOLDING_HISTORY rows of the deal `d` on the shares `us`: one for each lot that it changes, in
+-- the order of first shares, reversed if `d.is_lifo`, and one for the lot that it opens, if any.
 abbrev pub lot_changes_of_deal : Deal → List Share → List HoldingHistoryRow
 lot_changes_of_deal d us =
     map (holding_history_row d.trade) (list_reversed_if_lifo d.is_lifo (touches_of_existing_lots d us)
     ++ map opening_touch (lots_of_shares (opened_shares d us)))
 
--- The HOLDING_HISTORY rows of the deals, applied in sequence to the position with the shares `us`,
--- deal by deal.
+-- The HOLDING_HISTORY rows of the deals, applied in sequence to the shares `us`, deal by deal.
 abbrev pub lot_changes_of_deals : List Deal → List Share → List HoldingHistoryRow
 lot_changes_of_deals [] us = []
 lot_changes_of_deals (d ∷ ds) us = lot_changes_of_deal d us ++ lot_changes_of_deals ds (shares_after_deal us d)

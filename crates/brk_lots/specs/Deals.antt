@@ -7,8 +7,7 @@ use Rattle.brk_model.specs.Shares.{Deal}
 abbrev pub PrecedesDealOfOtherTrade : Deal → Deal → Type 0
 PrecedesDealOfOtherTrade d e = (d.trade ≢ e.trade) × (d.stamp < e.stamp)
 
--- The deals belong to distinct trades, and their stamps are strictly ascending. True of an empty
--- list.
+-- The deals belong to distinct trades, with strictly ascending stamps. True of an empty list.
 abbrev pub AreDistinctAscendingDeals : List Deal → Type 0
 AreDistinctAscendingDeals [] = ⊤
 AreDistinctAscendingDeals (d ∷ ds) = AllByRecursion (PrecedesDealOfOtherTrade d) ds × AreDistinctAscendingDeals ds

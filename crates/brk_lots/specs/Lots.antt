@@ -19,13 +19,11 @@ side_of_qty (negsuc n) = Sell
 abbrev pub share_of_lot : Lot → Share
 share_of_lot l = record { side = side_of_qty l.qty; trade = l.trade; price = l.price; stamp = l.stamp }
 
--- The single shares of the lots, lot by lot: for each lot as many equal shares as its quantity
--- without the sign.
+-- The single shares of the lots, lot by lot: as many equal shares as the lot's unsigned quantity.
 abbrev pub shares_of_lots : List Lot → List Share
 shares_of_lots ls = flat_map (λ l. replicate (unsigned_abs l.qty) (share_of_lot l)) ls
 
--- The list reversed if the first argument is true (last in, first out), otherwise the list
--- unchanged.
+-- The list, reversed if the first argument is true (last in, first out).
 abbrev pub list_reversed_if_lifo : {X : Type 0} → Bool → List X → List X
 list_reversed_if_lifo true xs = reverse xs
 list_reversed_if_lifo false xs = xs

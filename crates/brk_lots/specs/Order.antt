@@ -1,5 +1,4 @@
--- The order of a position's lots, compared neighbour by neighbour, for the contracts of private
--- helpers.
+-- The order of a position's lots, neighbour by neighbour, for the contracts of private helpers.
 use Rattle.std.specs.Prelude.{◌≡◌, ◌≢◌, pos, ◌<◌, ⊤, List, [], ◌∷◌}
 use Rattle.brk_lots.specs.declared.lot.Lot.{Lot}
 use Rattle.brk_lots.specs.Lots.{side_of_qty}
@@ -13,8 +12,7 @@ FirstLotSatisfies P (l ∷ ls) = P l
 abbrev pub PrecedesOnSameSide : Lot → Lot → Type 0
 PrecedesOnSameSide l m = (side_of_qty m.qty ≡ side_of_qty l.qty) × (l.stamp < m.stamp)
 
--- No lot of the list has 0 shares, and each lot after the first has the side of the lot before it
--- and a later stamp than that lot. True of an empty list.
+-- No lot has 0 shares, and each has the side of the one before it and a later stamp. True if empty.
 abbrev pub IsOneSidedAndAscending : List Lot → Type 0
 IsOneSidedAndAscending [] = ⊤
 IsOneSidedAndAscending (l ∷ ls) = (l.qty ≢ pos 0) × FirstLotSatisfies (PrecedesOnSameSide l) ls × IsOneSidedAndAscending ls

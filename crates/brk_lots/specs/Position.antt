@@ -8,19 +8,16 @@ use Rattle.brk_lots.specs.Lots.{side_of_qty}
 abbrev pub HasSameSideAndOtherTrade : Lot → Lot → Type 0
 HasSameSideAndOtherTrade l m = (side_of_qty m.qty ≡ side_of_qty l.qty) × (m.trade ≢ l.trade)
 
--- The lots form a position, in any order: no lot has 0 shares, all have one side, and no two were
--- opened by the same trade. True of an empty list.
+-- The lots form a position, in any order: none has 0 shares, all have one side and distinct trades.
 abbrev pub IsPositionInAnyOrder : List Lot → Type 0
 IsPositionInAnyOrder [] = ⊤
 IsPositionInAnyOrder (l ∷ ls) = (l.qty ≢ pos 0) × AllByRecursion (HasSameSideAndOtherTrade l) ls × IsPositionInAnyOrder ls
 
--- The lot `m` has the side of the lot `l`, was opened by another trade than `l`, and has a later
--- stamp than `l`.
+-- The lot `m` has the side of the lot `l`, another trade and a later stamp.
 abbrev pub PrecedesInPosition : Lot → Lot → Type 0
 PrecedesInPosition l m = HasSameSideAndOtherTrade l m × (l.stamp < m.stamp)
 
--- The lots form a position, the oldest first: no lot has 0 shares, all have one side, no two were
--- opened by the same trade, and the stamps are strictly ascending. True of an empty list.
+-- `IsPositionInAnyOrder` with strictly ascending stamps: a position, the oldest lot first.
 abbrev pub IsPosition : List Lot → Type 0
 IsPosition [] = ⊤
 IsPosition (l ∷ ls) = (l.qty ≢ pos 0) × AllByRecursion (PrecedesInPosition l) ls × IsPosition ls

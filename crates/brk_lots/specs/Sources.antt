@@ -5,8 +5,7 @@ use Rattle.brk_lots.specs.declared.lot.Lot.{Lot}
 use Rattle.brk_lots.specs.Lots.{list_reversed_if_lifo}
 use Rattle.brk_lots.specs.Position.{IsPositionInAnyOrder}
 
--- A source still yields exactly the lots `ls` (`remaining`), in this sequence, and the disk
--- assumption of the source (`told`) holds.
+-- The source still yields exactly `ls` (`remaining`), and its disk assumption (`told`) holds.
 abbrev pub AreLotsOfFaithfulSource : Type 0 → (List Lot → Type 0) → List Lot → Type 0
 AreLotsOfFaithfulSource told remaining ls = told × remaining ls
 
@@ -30,8 +29,7 @@ pub record RequestsLots {Source R : Type 0} (CanLead : Source → Source → Typ
   pub requests : asked after ≤ asked before + most
   -- At `Ok` the source counted no fault.
   pub faulted : OnOk result (faults after ≡ faults before)
-  -- A fault is one of the call's own, or one with which a call of the source failed, and which left
-  -- the source as it is.
+  -- A fault is the call's own, or of a call of the source, which it left as it is.
   pub fault : IfErr result (λ fault. IsOwn fault ⊎ ((earlier : Source) × Fails earlier fault after))
   -- The lots that the call did not take remain in the source, also if it fails.
   pub remaining : (ls : List Lot) → AreLotsOfFaithfulSource (reads_faithfully after) (Remain before) ls → (n : ℕ) × Remain after (drop n ls)

@@ -1,4 +1,4 @@
-//! Trades that close no lot.
+//! The check that a trade closes lots, and the effect and the values of one that closes none.
 
 ghost use Rattle.std.specs.Prelude.{◌≡◌, List, Bool, false};
 ghost use Rattle.brk_model.specs.Shares as model;

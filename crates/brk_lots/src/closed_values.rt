@@ -1,3 +1,5 @@
+//! The buy value and the sell value of the shares that a trade closes.
+
 ghost use Rattle.std.specs.Prelude.{◌≡◌, ◌*◌, ◌≤◌};
 ghost use Rattle.brk_model.specs.Limits.{greatest_amount};
 ghost use Rattle.brk_lots.specs.ClosedValues.{closing_values_by_side};

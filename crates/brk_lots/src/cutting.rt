@@ -1,3 +1,5 @@
+//! The lots that remain in a vector after the changes of a trade.
+
 ghost use Rattle.std.specs.Prelude.{◌≡◌, ◌++◌, ◌+◌, ◌<◌, ◌≤◌, Bool, ℕ, drop, slice_index_or, take, vec_capacity, vec_len};
 ghost use Rattle.brk_lots.specs.declared.lot.Lot.{Lot};
 ghost use Rattle.brk_lots.specs.Lots.{list_reversed_if_lifo};
@@ -6,7 +8,8 @@ ghost use Rattle.brk_lots.specs.Walks.{touches_of_first_shares, lots_after_touch
 
 use crate::lot::{Lot, Touch};
 
-// Closed lots stay in the vector, before the returned index, so that no lot is moved.
+// Closes the lots before `last`, and leaves `last` with `qty` shares, or closes it too at 0. Closed
+// lots stay in the vector, before the returned index, so that no lot is moved.
 fn close_front(lots: &mut Vec<Lot>, last: usize, qty: i64) -> usize
     // `last` is the index of a lot.
     requires { last < vec_len lots.old }
@@ -27,6 +30,7 @@ fn close_front(lots: &mut Vec<Lot>, last: usize, qty: i64) -> usize
     last
 }
 
+// Removes the lots after `last`, and `last` itself if none of its shares remain.
 fn remove_back(lots: &mut Vec<Lot>, last: usize, qty: i64)
     // `last` is the index of a lot.
     requires { last < vec_len lots.old }

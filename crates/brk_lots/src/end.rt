@@ -1,3 +1,5 @@
+//! A source of the lots of a position, from either of its ends.
+
 ghost use Rattle.std.specs.Prelude.{◌≡◌, ◌≢◌, ◌≤◌, ◌-◌, ⊤, length, pos};
 ghost use Rattle.std.specs.List.{All};
 ghost use Rattle.brk_lots.specs.Lots.{list_reversed_if_lifo};

@@ -1,3 +1,5 @@
+//! Lots and their changes, and the side and the sign of a number of shares.
+
 ghost use Rattle.std.specs.Prelude.{◌≡◌, ◌≤◌, ◌-◌};
 ghost use Rattle.std.specs.Int.RustNames.{unsigned_abs};
 ghost use Rattle.brk_money.specs.Kinds.{is_same_side};
@@ -42,7 +44,7 @@ impl Lot {
         self.qty.unsigned_abs()
     }
 
-    fn left_after(&self, shares: u32) -> i64
+    fn qty_after_closing(&self, shares: u32) -> i64
         requires { shares ≤ unsigned_abs self.now.qty }
         ensures { result ≡ signed_by_side (side_of_qty self.now.qty) (unsigned_abs self.now.qty - shares) }
     {
@@ -53,7 +55,7 @@ impl Lot {
         }
     }
 
-    pub(crate) fn touch_closing(&self, shares: u32) -> Touch
+    pub(crate) fn closing_touch(&self, shares: u32) -> Touch
         requires { shares ≤ unsigned_abs self.now.qty }
         ensures { result
             ≡ record { lot = self.now.trade; before = self.now.qty; after = signed_by_side (side_of_qty self.now.qty) (unsigned_abs self.now.qty - shares) } }
@@ -61,7 +63,7 @@ impl Lot {
         Touch {
             lot: self.trade,
             before: self.qty,
-            after: self.left_after(shares),
+            after: self.qty_after_closing(shares),
         }
     }
 }

@@ -7,8 +7,8 @@ ghost use Rattle.brk_lots.specs.Closing.{IsApplicableClosing};
 use crate::closing::Closing;
 use crate::cutting::apply_touches;
 use crate::end::PositionEnd;
-use crate::lawful::{is_later_trade, is_position};
 use crate::lot::Lot;
+use crate::position_checks::{is_later_trade, is_position};
 use crate::source::LotSource;
 use brk_money::{Fault, Id, Stamp};
 use std::alloc::Global;
@@ -93,8 +93,8 @@ impl Position {
         Ok(())
     }
 
-    /// Returns a source of the lots: the newest first if `lifo` is true, otherwise the oldest
-    /// first.
+    /// Returns the lots of this position as a source: the newest first if `lifo` is true, otherwise
+    /// the oldest first.
     pub fn from_end(&self, lifo: bool) -> PositionEnd<'_>
         ensures remaining { ⟦<PositionEnd<'static> as LotSource>⟧.remaining result (list_reversed_if_lifo lifo self.now) }
         ensures asked { ⟦<PositionEnd<'static> as LotSource>⟧.asked result ≡ 0 }

@@ -1,3 +1,5 @@
+//! The replay of deals from no lots, and the changes of lots that it makes.
+
 ghost use Rattle.std.specs.Prelude.{◌≡◌, ◌++◌, [], map, IfOk, IfErr, OnOk};
 ghost use Rattle.std.specs.Option.{option_to_list};
 ghost use Rattle.brk_model.specs.Shares.{replay};
@@ -73,13 +75,13 @@ impl Position {
         ensures fault { IfErr result (λ fault. fault ≡ Fault.Memory) }
     {
         let mut rows = Vec::new(alloc);
-        Ok(Position::replay_changes(alloc, deals, &mut rows)?)
+        Ok(Position::replay_with_changes(alloc, deals, &mut rows)?)
     }
 
     /// Replays `deals` as `replay` does, and appends the changes of lots by each deal in sequence:
     /// those of the lots that it closes or reduces, then the one that opens its own lot. A call
     /// that fails may have appended some of them.
-    pub fn replay_changes(
+    pub fn replay_with_changes(
         alloc: Global,
         deals: &[Deal],
         rows: &mut Vec<DealTouch>,

@@ -1,3 +1,5 @@
+//! Receivers of the changes of lots: a vector, and one that discards them.
+
 ghost use Rattle.std.specs.Prelude.{◌≡◌, ◌++◌, ◌∷◌, [], List, IfErr, OnOk};
 ghost use Rattle.brk_lots.specs.declared.lot.Touch.{Touch};
 ghost use Rattle.brk_money.specs.declared.fault.Fault.{Fault};

@@ -1,3 +1,5 @@
+//! The values of the shares that an order would close, for its estimate.
+
 ghost use Rattle.std.specs.Prelude.{◌≡◌, ◌+◌, ◌≤◌, ℕ, List, Bool, length, IfOk};
 ghost use Rattle.brk_model.specs.Shares.{touches_of_existing_lots};
 ghost use Rattle.brk_lots.specs.declared.lot.Lot.{Lot};

@@ -1,3 +1,5 @@
+//! Closing the lots of a source one by one, with the cost and the values of their shares.
+
 ghost use Rattle.std.specs.Prelude.{◌+◌, ◌*◌, ◌≤◌, List, [], length, IfOk};
 ghost use Rattle.brk_model.specs.Limits.{greatest_price};
 ghost use Rattle.brk_lots.specs.declared.lot.Lot.{Lot};
@@ -10,7 +12,7 @@ ghost use Rattle.brk_lots.specs.Walks.{IsResultOfClosingLots, closed_share_count
 use crate::closed_values::{Values, share_values};
 use crate::lot::are_same_side;
 use crate::rows::TouchReceiver;
-use crate::shares::shares_to_close;
+use crate::shares::shares_to_close_in_lot;
 use crate::source::LotSource;
 use brk_money::{Fault, Price, Qty, Side};
 
@@ -60,8 +62,8 @@ fn close_lots_with_cost<L: LotSource, R: TouchReceiver>(
         if are_same_side(lot.side(), side) {
             break;
         }
-        let shares = shares_to_close(lot.share_count(), left);
-        rows.add(lot.touch_closing(shares))?;
+        let shares = shares_to_close_in_lot(lot.share_count(), left);
+        rows.add(lot.closing_touch(shares))?;
         cost += u64::from(shares) * u64::from(lot.price.get());
         left -= shares;
     }

@@ -13,14 +13,12 @@ use Rattle.brk_model.specs.Joins.{history_rows_with_trade_id, trade_row_with_id,
 abbrev pub account_of_row : AccountRow → Account
 account_of_row a = record { id = a.id; customer = a.customer; broker = a.broker; name = a.name; tax_status = a.tax_status; opening = a.opening }
 
--- The status changes of the trade with the id `trade` in TRADE_HISTORY, sorted by stamp, ascending;
--- the sort is stable.
+-- The status changes of the trade `trade` in TRADE_HISTORY, stably sorted by stamp, ascending.
 abbrev pub status_changes_of_trade : Tables → ℕ → List StatusChange
 status_changes_of_trade tables trade =
     sort_by_key (λ m. m.stamp) (map (λ h. record { stamp = h.stamp; status = h.status }) (history_rows_with_trade_id tables trade))
 
--- The posting that a CASH_TRANSACTION row describes: its trade, stamp, amount and name, and the
--- account of its trade, which is 0 if the trade does not exist.
+-- The posting of a CASH_TRANSACTION row, to the account of its trade (0 if this does not exist).
 abbrev pub posting_of_cash_transaction_row : Tables → OldCashRow → Posting
 posting_of_cash_transaction_row tables c = record {
   account = option_map_or (λ t. t.account) (trade_row_with_id tables c.trade) 0;
@@ -34,8 +32,7 @@ posting_of_cash_transaction_row tables c = record {
 abbrev pub posting_of_cash_move_row : CashRow → Posting
 posting_of_cash_move_row r = record { account = r.account; trade = r.trade; stamp = r.stamp; amount = r.amount; name = r.name }
 
--- The postings of all cash rows of the tables: of the rows of CASH_TRANSACTION, followed by the
--- rows of CASH_MOVE.
+-- The postings of the rows of CASH_TRANSACTION, followed by those of the rows of CASH_MOVE.
 abbrev pub postings_of_tables : Tables → List Posting
 postings_of_tables tables = map (posting_of_cash_transaction_row tables) tables.cash ++ map posting_of_cash_move_row tables.moves
 
@@ -47,9 +44,8 @@ is_posting_of_trade trade p = is_id_of_trade trade p.trade
 abbrev pub movement_of_row : CashRow → Movement
 movement_of_row r = record { account = r.account; stamp = r.stamp; amount = r.amount; name = r.name }
 
--- The trade that a TRADE row describes, with its status changes of TRADE_HISTORY, the cash type of
--- its first SETTLEMENT row and the name of its first cash row (`postings_of_tables`); the last two
--- are empty if these rows do not exist. The status and the stamp of the TRADE row are not used.
+-- The trade of a TRADE row, whose status and stamp are not used, with its status changes, the cash
+-- type of its first SETTLEMENT row and the name of its first cash row, or empty texts.
 abbrev pub trade_of_row : Tables → TradeRow → Trade
 trade_of_row tables t = record {
   id = t.id;
@@ -70,8 +66,7 @@ trade_of_row tables t = record {
   cash_name = option_map_or (λ p. p.name) (find (is_posting_of_trade t.id) (postings_of_tables tables)) [];
 }
 
--- The security that a SECURITY row and a LAST_TRADE row describe; the symbol of the LAST_TRADE row
--- is not used.
+-- The security of a SECURITY row and a LAST_TRADE row, whose symbol is not used.
 abbrev pub security_of_rows : SecurityRow → LastTradeRow → Security
 security_of_rows s l =
     record { symbol = s.symbol; name = s.name; exchange = s.exchange; sector = s.sector; last_price = l.price; volume = l.volume; moment = l.stamp }
@@ -80,14 +75,12 @@ security_of_rows s l =
 abbrev pub zero_last_trade_row : Text → LastTradeRow
 zero_last_trade_row symbol = record { symbol = symbol; stamp = 0; price = 0; volume = 0 }
 
--- The security that a SECURITY row and the first LAST_TRADE row of its symbol describe; the price,
--- the volume and the stamp are 0 if there is no such LAST_TRADE row.
+-- The security of a SECURITY row, with price, volume and stamp of its first LAST_TRADE row, or 0.
 abbrev pub security_of_row : Tables → SecurityRow → Security
 security_of_row tables s =
     option_map_or (security_of_rows s) (find (λ l. bytes_eq l.symbol s.symbol) tables.last_trades) (security_of_rows s (zero_last_trade_row s.symbol))
 
--- The base that the tables `t` of any schema describe. Values that follow from a base, such as
--- lots, sums and balances, are not read.
+-- The base that the tables `t` of any schema describe; lots, sums and balances are not read.
 unfoldable pub base_of_tables : Tables → Base
 base_of_tables t = record {
   brokers = map (λ b. record { id = b.id; name = b.name }) t.brokers;

@@ -10,13 +10,11 @@ use Rattle.brk_model.specs.Commands.{Answer, Refused}
 abbrev pub Fields : Type 0
 Fields = List Text
 
--- The type of a step: from a base, a clock reading, a command and its key to the answer and the
--- base after it.
+-- A step: from a base, a clock reading, a command and its key to the answer and the base after it.
 abbrev pub RowStep : Type 0 → Type 0 → Type 0
 RowStep B C = B → ℕ → C → Key → Answer × B
 
--- The result of rows: their answers, in the sequence of the rows, the base after the last answer,
--- and the clock readings that were not used.
+-- The result of rows: the answers in sequence, the base after them, and the unused clock readings.
 pub record ResultOfRows (B : Type 0) : Type 0 where
   pub answers : List Answer
   pub base : B
@@ -26,25 +24,21 @@ pub record ResultOfRows (B : Type 0) : Type 0 where
 abbrev pub result_with_answer_in_front : {B : Type 0} → Answer → ResultOfRows B → ResultOfRows B
 result_with_answer_in_front answer rest = record { answers = answer ∷ rest.answers; base = rest.base; moments = rest.moments }
 
--- The result that `more` returns for the base `answered.1` and the clock readings `moments`, with
--- the answer `answered.0` in front of its answers.
+-- The result of `more` on the base `answered.1` and `moments`, with the answer `answered.0` first.
 abbrev pub result_of_answer_and_later_rows : {B : Type 0} → Answer × B → List ℕ → (B → List ℕ → ResultOfRows B) → ResultOfRows B
 result_of_answer_and_later_rows answered moments more = result_with_answer_in_front answered.0 (more answered.1 moments)
 
--- The result of a row under the key `key` and of the rows after it, whose result `more` returns for
--- the base and the clock readings after the row. A malformed row is answered with its refusal, uses
--- no clock reading and does not change the base. A command uses the next clock reading, at which
--- `step` returns its answer and the base after it. If no clock reading is left for a command,
--- neither it nor a row after it has an answer.
+-- The result of a row and of the rows after it (`more`). A malformed row is answered with its
+-- refusal, uses no clock reading and does not change the base. A command uses the next clock
+-- reading, at which `step` answers it; without one, it and all later rows have no answer.
 abbrev pub result_of_row_and_later_rows : {B C : Type 0} → RowStep B C → ReadResult C → Key → B → List ℕ → (B → List ℕ → ResultOfRows B) → ResultOfRows B
 result_of_row_and_later_rows step (Err refusal) key base moments more = result_of_answer_and_later_rows (Refused refusal, base) moments more
 result_of_row_and_later_rows step (Ok command) key base (now ∷ moments) more = result_of_answer_and_later_rows (step base now command key) moments more
 result_of_row_and_later_rows step (Ok command) key base [] more = record { answers = []; base = base; moments = [] }
 
 -- The result of the rows of a batch, parsed by `form` and executed by `step` in sequence, from
--- `base` on with the clock readings `moments`. A malformed row and a missing clock reading have the
--- effects that `result_of_row_and_later_rows` specifies. The first row has the number `n`, and the
--- key of a row consists of the batch name `batch` and the row's number.
+-- `base` on with the clock readings `moments` (`result_of_row_and_later_rows`). The first row has
+-- the number `n`; the key of a row is the batch name `batch` and the row's number.
 abbrev pub result_of_rows : {B C : Type 0} → (Fields → ReadResult C) → RowStep B C → Text → ℕ → B → List ℕ → List Fields → ResultOfRows B
 result_of_rows form step batch n base moments [] = record { answers = []; base = base; moments = moments }
 result_of_rows form step batch n base moments (row ∷ rows) =
@@ -52,10 +46,9 @@ result_of_rows form step batch n base moments (row ∷ rows) =
     (λ after left. result_of_rows form step batch (n + 1) after left rows)
 
 -- The rows of the batch `batch`, numbered from 1, parsed by `form` and executed by `step` from
--- `base` on, have exactly the answers `answers`, in the sequence of the rows, use all clock
--- readings `moments`, and result in the base `after`. A malformed row is answered with its refusal
--- and uses no clock reading. A well-formed row for which no clock reading is left, and each row
--- after it, has no answer.
+-- `base` on, have exactly the answers `answers`, in sequence, use all clock readings `moments`, and
+-- result in the base `after`. A malformed row is answered with its refusal and uses no clock
+-- reading; a command for which none is left, and each row after it, has no answer.
 abbrev pub RowsAreAnswered : {B C : Type 0} → (Fields → ReadResult C) → RowStep B C → Text → B → List ℕ → List Fields → List Answer → B → Type 0
 RowsAreAnswered form step batch base moments rows answers after =
     result_of_rows form step batch 1 base moments rows ≡ record { answers = answers; base = after; moments = [] }

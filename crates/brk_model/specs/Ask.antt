@@ -18,10 +18,9 @@ use Rattle.brk_model.specs.Views.{view_of_tables}
 use Rattle.brk_model.specs.Rows.{estimate_fields}
 use Rattle.brk_model.specs.Step.{value_unless_refused}
 
--- The checks of a query on `base`, in the sequence in which they are made: that the account, the
--- customer, the security or all trades of the query exist, with the refusal `NoAccount`,
--- `NoCustomer`, `NoSecurity` or `NoTrade`, or the checks of the order of an estimate
--- (`checks_of_order`). The queries for submitted trades and for broker volumes have none.
+-- The checks of a query on `base`, in sequence: that the account, the customer, the security or all
+-- trades of the query exist (`NoAccount`, `NoCustomer`, `NoSecurity`, `NoTrade`), or, for an
+-- estimate, `checks_of_order`. The queries for submitted trades and for broker volumes have none.
 unfoldable pub checks_of_query : Base → Query → List RefusalCheck
 checks_of_query base (PositionOf customer) = customer_exists_check base customer ∷ []
 checks_of_query base (PositionOfTaxId tax_id) = (is_none (find (λ c. bytes_eq c.tax_id tax_id) base.customers), NoCustomer) ∷ []
@@ -41,15 +40,13 @@ unfoldable pub view_of_base : Base → Query → View
 view_of_base base (EstimateOf order) = estimate_fields (estimate base order) ∷ []
 view_of_base base query = unwrap_or (view_of_tables (tables_of_base base) query) []
 
--- The result of the query on `base`: the refusal of its first check that applies, otherwise its
--- view.
+-- The result of a query on `base`: the refusal of its first check that applies, otherwise its view.
 unfoldable pub ask : Base → Query → Result View Refusal
 ask base query = value_unless_refused (first_refusal (checks_of_query base query)) (view_of_base base query)
 
 -- ---- from arguments to a query
 
--- The query that `read` reads from the only argument, or the refusal of `read`; the refusal
--- `BadText` if there is no argument or more than one.
+-- The query that `read` reads from the only argument, or its refusal; otherwise `BadText`.
 abbrev pub read_single_argument : (Text → ReadResult Query) → List Text → ReadResult Query
 read_single_argument read (argument ∷ []) = read argument
 read_single_argument read _ = Err BadText
@@ -65,42 +62,36 @@ abbrev pub read_value_and_stamps : {A : Type 0} → (Text → ReadResult A) → 
 read_value_and_stamps read query (what ∷ first ∷ last ∷ []) = Ok query ⊛ read what ⊛ read_stamp first ⊛ read_stamp last
 read_value_and_stamps read query _ = Err BadText
 
--- The query for touched lots that exactly two arguments parse as (account, first stamp), otherwise
--- the refusal `BadText`.
+-- The query for touched lots from exactly two arguments (account, first stamp), or `BadText`.
 abbrev pub read_lots_query : List Text → ReadResult Query
 read_lots_query (account ∷ first ∷ []) = Ok (λ a f. LotsTouched a f) ⊛ read_id account ⊛ read_stamp first
 read_lots_query _ = Err BadText
 
--- The distinct broker names that the arguments parse as, 1 to 20 in number, in the sequence of
--- their first occurrences; otherwise a refusal, `BadText` if a name is malformed or there is none,
--- and `TooMany` in any other case.
+-- The 1 to 20 distinct broker names that the arguments parse as, in the sequence of their first
+-- occurrences; otherwise `BadText` if a name is malformed or there is none, else `TooMany`.
 abbrev pub read_broker_names : List Text → ReadResult (List Text)
 read_broker_names names = check_read_value (λ ns. one_to_twenty_elements (distinct_texts ns)) (read_each_text read_name names)
 
--- The query for broker volumes that the arguments parse as: a sector, and broker names, which are 1
--- to 20 after duplicates are removed; otherwise a refusal, `TooMany` if all arguments are
--- well-formed and more than 20 names are distinct, and `BadText` in any other case.
+-- The query for broker volumes from a sector and broker names, of which 1 to 20 are distinct;
+-- otherwise `TooMany` if all arguments are well-formed and more names are distinct, else `BadText`.
 abbrev pub read_volume_query : List Text → ReadResult Query
 read_volume_query [] = Err BadText
 read_volume_query (sector ∷ names) = Ok (λ s ns. VolumeOf s ns) ⊛ read_name sector ⊛ read_broker_names names
 
 -- ---- the views
 
--- The names of the views `submitted` and `estimate`, each with the parser of its query from the
--- arguments.
+-- The views `submitted` and `estimate`, each with the parser of its query from the arguments.
 abbrev pub order_view_parsers : List (NamedParser Query)
 order_view_parsers = (codes "submitted", read_no_arguments SubmittedTrades) ∷ (codes "estimate", read_and_wrap EstimateOf read_order) ∷ []
 
--- The names of the views `customer`, `taxid`, `recent` and `status`, each with the parser of its
--- query from the arguments.
+-- The views `customer`, `taxid`, `recent` and `status`, each with its query's parser.
 abbrev pub account_view_parsers : List (NamedParser Query)
 account_view_parsers =
     (codes "customer", read_single_argument (read_and_wrap PositionOf read_id))
     ∷ (codes "taxid", read_single_argument (read_and_wrap PositionOfTaxId read_tax_id))
     ∷ (codes "recent", read_single_argument (read_and_wrap RecentOf read_id)) ∷ (codes "status", read_single_argument (read_and_wrap StatusOf read_id)) ∷ []
 
--- The names of the views `trades`, `accounttrades`, `symboltrades` and `lots`, each with the parser
--- of its query from the arguments.
+-- The views `trades`, `accounttrades`, `symboltrades` and `lots`, each with its query's parser.
 abbrev pub lookup_view_parsers : List (NamedParser Query)
 lookup_view_parsers =
     (codes "trades", read_and_wrap TradesWith read_distinct_ids) ∷ (codes "accounttrades", read_value_and_stamps read_id (λ a f l. TradesOfAccount a f l))

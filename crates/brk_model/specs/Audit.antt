@@ -9,15 +9,13 @@ use Rattle.brk_model.specs.Adopted.{base_of_tables}
 use Rattle.brk_model.specs.Form.{satisfies_form_condition}
 use Rattle.brk_model.specs.Ways.{satisfies_status_condition}
 
--- The tables in the schema `schema`, each sorted by key, of the base that the tables `t` describe
--- (`base_of_tables`).
+-- The tables in the schema `schema`, sorted by key, of the `base_of_tables` of the tables `t`.
 abbrev pub expected_tables : Schema → Tables → Tables
 expected_tables schema t = sheets_in_schema schema (base_of_tables t)
 
--- The tables `t` of the schema `schema`, each sorted by key, satisfy the condition. For `Form` and
--- `Status`, its check is true. For each other condition on rows, the table, the two tables or the
--- column that it concerns equal their counterparts in `expected_tables`. No tables satisfy
--- `NotEmpty` or `Schema`, which are conditions of a database, not of rows.
+-- The tables `t` of the schema `schema`, each sorted by key, satisfy the condition: for `Form` and
+-- `Status`, their check is true; for any other condition on rows, the tables or the column that it
+-- concerns equal those of `expected_tables`. `NotEmpty` and `Schema`, of a database, never hold.
 unfoldable pub ConditionHolds : Schema → Condition → Tables → Type 0
 ConditionHolds schema condition.NotEmpty t = ⊥
 ConditionHolds schema condition.Schema t = ⊥
@@ -39,8 +37,7 @@ row_conditions =
     condition.Form ∷ condition.Status ∷ condition.Requests ∷ condition.Lots ∷ condition.History ∷ condition.Summary ∷ condition.Count
     ∷ condition.Commission ∷ condition.Settlement ∷ condition.Cash ∷ condition.Balance ∷ []
 
--- The answer is the first of the listed conditions that the tables `t` do not satisfy, or none if
--- they satisfy all.
+-- The answer is the first of the listed conditions that the tables `t` do not satisfy, or none.
 abbrev pub IsFirstFailingCondition : Schema → List Condition → Tables → Option Condition → Type 0
 IsFirstFailingCondition schema [] t answer = answer ≡ None
 IsFirstFailingCondition schema (c ∷ cs) t answer =

@@ -1,7 +1,6 @@
 -- The base (abstract state) of a brokerage: all that it accepted and recorded, in the order of
--- acceptance. A base that is read from tables (`base_of_tables` of Adopted) has its lists in the
--- order of the rows, which are sorted by key. Lots, sums, balances and requests are not in a base,
--- since they follow from it.
+-- acceptance, or of keys if it is read from tables (`base_of_tables` of Adopted). Lots, sums,
+-- balances and requests follow from it and are not in it.
 use Rattle.std.specs.Prelude.{ℕ, Bool, true, false, ◌&&◌, ◌==◌, nat_le, List, [], ◌∷◌, ◌++◌, filter, find, sum_by, Option, None, unwrap_or, ℤ, pos, bytes_eq}
 use Rattle.std.specs.List.{last_or}
 use Rattle.std.specs.Option.{option_map_or}
@@ -16,9 +15,8 @@ use Rattle.brk_model.specs.Records.{Broker, Customer, Account, Permission, Secur
 use Rattle.brk_model.specs.Records.{SettleRule, Kept}
 use Rattle.brk_model.specs.Lists.{update_where}
 
--- The base (abstract state): a list for each kind of record, the first day of one-day settlement,
--- or none if it is not set (`rule`), the stored requests with their replies (`kept`), and the stamp
--- of the last accepted command, or none if no command was accepted (`last`).
+-- The base: a list for each kind of record, the stored requests with replies (`kept`), the first
+-- day of one-day settlement (`rule`) and the stamp of the last accepted command (`last`), if any.
 pub record Base : Type 0 where
   pub brokers : List Broker
   pub customers : List Customer
@@ -35,8 +33,7 @@ pub record Base : Type 0 where
   pub kept : List Kept
   pub last : Option ℕ
 
--- The empty base: its lists are empty, and it has no first day of one-day settlement and no last
--- stamp.
+-- The empty base: empty lists, no first day of one-day settlement and no last stamp.
 unfoldable pub empty_base : Base
 empty_base = record {
   brokers = [];
@@ -79,8 +76,7 @@ account_with_id_in_list accounts id = find (λ a. a.id == id) accounts
 abbrev pub account_with_id : Base → ℕ → Option Account
 account_with_id base id = account_with_id_in_list base.accounts id
 
--- The first security of the list `securities` with the symbol `symbol`; none if there is no such
--- security.
+-- The first security of the list `securities` with the symbol `symbol`, or none.
 abbrev pub security_with_symbol_in_list : List Security → Text → Option Security
 security_with_symbol_in_list securities symbol = find (λ s. bytes_eq s.symbol symbol) securities
 
@@ -88,8 +84,7 @@ security_with_symbol_in_list securities symbol = find (λ s. bytes_eq s.symbol s
 abbrev pub security_with_symbol : Base → Text → Option Security
 security_with_symbol base symbol = security_with_symbol_in_list base.securities symbol
 
--- The first tax rate record of the list `tax_rates` with the id `id`; none if there is no such
--- record.
+-- The first tax rate record of the list `tax_rates` with the id `id`, or none.
 abbrev pub tax_rate_with_id_in_list : List TaxRate → ℕ → Option TaxRate
 tax_rate_with_id_in_list tax_rates id = find (λ r. r.id == id) tax_rates
 
@@ -101,65 +96,53 @@ tax_rate_record_with_id base id = tax_rate_with_id_in_list base.tax_rates id
 abbrev pub trade_with_id : Base → ℕ → Option Trade
 trade_with_id base id = find (λ t. t.id == id) base.trades
 
--- The first charge of `base` for the trade type `kind` and the customer tier `tier`; none if there
--- is no such charge.
+-- The first charge of `base` for the trade type `kind` and the customer tier `tier`, or none.
 abbrev pub charge_for_type_and_tier : Base → TradeType → ℕ → Option Charge
 charge_for_type_and_tier base kind tier = find (λ c. is_same_trade_type c.kind kind && (c.tier == tier)) base.charges
 
 -- The first commission band of `base` for the customer tier `tier`, the trade type `kind` and the
--- exchange `exchange` whose bounds contain the quantity `qty`, in shares, both bounds included;
--- none if there is no such band.
+-- exchange `exchange` whose bounds, both included, contain the quantity `qty`, in shares; or none.
 abbrev pub commission_band_for_quantity : Base → ℕ → TradeType → Text → ℕ → Option Band
 commission_band_for_quantity base tier kind exchange qty =
     find (λ b. (b.tier == tier) && is_same_trade_type b.kind kind && bytes_eq b.exchange exchange && nat_le b.from_qty qty && nat_le qty b.to_qty) base.bands
 
--- The id of the broker of the first account with the id `account` in the list `accounts`; 0 if the
--- list has no such account.
+-- The id of the broker of the first account with the id `account` in the list `accounts`, or 0.
 abbrev pub broker_id_in_accounts : List Account → ℕ → ℕ
 broker_id_in_accounts accounts account = option_map_or (λ a. a.broker) (account_with_id_in_list accounts account) 0
 
--- The tax status of the first account with the id `account` in the list `accounts`; `Untaxed` if
--- the list has no such account.
+-- The tax status of the first account with the id `account` in the list `accounts`, or `Untaxed`.
 abbrev pub tax_status_in_accounts : List Account → ℕ → TaxStatus
 tax_status_in_accounts accounts account = option_map_or (λ a. a.tax_status) (account_with_id_in_list accounts account) Untaxed
 
--- The opening balance, in cents, of the first account with the id `account` in the list `accounts`;
--- 0 if the list has no such account.
+-- The opening balance, in cents, of the first account of the list with the id `account`, or 0.
 abbrev pub opening_balance_in_accounts : List Account → ℕ → ℤ
 opening_balance_in_accounts accounts account = option_map_or (λ a. a.opening) (account_with_id_in_list accounts account) (pos 0)
 
--- The id of the broker of the first account of `base` with the id `account`; 0 if there is no such
--- account.
+-- The id of the broker of the first account of `base` with the id `account`, or 0.
 abbrev pub broker_id_of_account : Base → ℕ → ℕ
 broker_id_of_account base account = broker_id_in_accounts base.accounts account
 
--- The id of the customer of the first account of `base` with the id `account`; 0 if there is no
--- such account.
+-- The id of the customer of the first account of `base` with the id `account`, or 0.
 abbrev pub customer_id_of_account : Base → ℕ → ℕ
 customer_id_of_account base account = option_map_or (λ a. a.customer) (account_with_id base account) 0
 
--- The tier of the first customer of `base` with the id that `customer_id_of_account` returns for
--- the account `account`; 0 if there is no such customer.
+-- The tier of the first customer of `base` with the id `customer_id_of_account`, or 0.
 abbrev pub tier_of_account : Base → ℕ → ℕ
 tier_of_account base account = option_map_or (λ c. c.tier) (customer_with_id base (customer_id_of_account base account)) 0
 
--- The exchange of the first security of `base` with the symbol `symbol`; empty if there is no such
--- security.
+-- The exchange of the first security of `base` with the symbol `symbol`, or the empty text.
 abbrev pub exchange_of_security : Base → Text → Text
 exchange_of_security base symbol = option_map_or (λ s. s.exchange) (security_with_symbol base symbol) []
 
--- The name of the first security with the symbol `symbol` in the list `securities`; empty if there
--- is no such security.
+-- The name of the first security of the list with the symbol `symbol`, or the empty text.
 abbrev pub security_name_in_list : List Security → Text → Text
 security_name_in_list securities symbol = option_map_or (λ s. s.name) (security_with_symbol_in_list securities symbol) []
 
--- The name of the first security of `base` with the symbol `symbol`; empty if there is no such
--- security.
+-- The name of the first security of `base` with the symbol `symbol`, or the empty text.
 abbrev pub security_name : Base → Text → Text
 security_name base symbol = security_name_in_list base.securities symbol
 
--- The last market price, in cents, of the first security of `base` with the symbol `symbol`; 0 if
--- there is no such security.
+-- The last market price, in cents, of the first security of `base` with the symbol `symbol`, or 0.
 abbrev pub last_price : Base → Text → ℕ
 last_price base symbol = option_map_or (λ s. s.last_price) (security_with_symbol base symbol) 0
 
@@ -169,8 +152,7 @@ abbrev pub tax_rate_sum_in_lists : List TaxRate → List CustomerTax → ℕ →
 tax_rate_sum_in_lists tax_rates customer_taxes customer =
     sum_by (λ x. option_map_or (λ r. r.rate) (tax_rate_with_id_in_list tax_rates x.tax) 0) (filter (λ x. x.customer == customer) customer_taxes)
 
--- The sum of the tax rates that the customer `customer` of `base` pays, in hundred-thousandths; a
--- tax whose rate record does not exist counts as 0.
+-- The `tax_rate_sum_in_lists` of the customer `customer` of `base`, in hundred-thousandths.
 abbrev pub tax_rate_sum_of_customer : Base → ℕ → ℕ
 tax_rate_sum_of_customer base customer = tax_rate_sum_in_lists base.tax_rates base.customer_taxes customer
 
@@ -186,13 +168,11 @@ is_withholding_status Untaxed = false
 is_withholding_status Withheld = true
 is_withholding_status Reported = false
 
--- True if the gains of the account `account` of `base` are taxable; false if the account does not
--- exist.
+-- True if the account `account` of `base` exists and its gains are taxable.
 abbrev pub is_taxable_account : Base → ℕ → Bool
 is_taxable_account base account = is_taxable_status (tax_status_in_accounts base.accounts account)
 
--- The last status change of the trade `t`, in the sequence of its `marks`; none if it has no status
--- change.
+-- The last of the status changes (`marks`) of the trade `t`, or none.
 abbrev pub last_status_change : Trade → Option StatusChange
 last_status_change t = last_or None t.marks
 
@@ -204,8 +184,7 @@ has_last_status status t = option_map_or (λ m. is_same_trade_status m.status st
 abbrev pub last_status_stamp_of_trade : Trade → ℕ
 last_status_stamp_of_trade t = option_map_or (λ m. m.stamp) (last_status_change t) 0
 
--- True if the last status change of the trade `t` is to `Completed`; false if it has no status
--- change.
+-- True if the last status change of the trade `t` is to `Completed`; false if it has none.
 abbrev pub is_completed : Trade → Bool
 is_completed t = has_last_status Completed t
 

@@ -14,10 +14,9 @@ pub record Listing : Type 0 where
   pub sector : Text
   pub price : ℕ
 
--- An order of `qty` shares of `symbol` for the account with the id `account`, placed by `executor`.
--- `order_type` includes the requested price unless it is a market type. The order creates a cash
--- trade if `is_cash` is true, otherwise a margin trade. The trade closes the last opened shares of
--- its position first if `is_lifo` is true, otherwise the first opened ones.
+-- An order of `qty` shares of `symbol` for the account `account` by `executor`; `order_type`
+-- includes the requested price, if any. Its trade is a cash trade if `is_cash`, otherwise a margin
+-- trade, and closes the last opened shares of its position first if `is_lifo`, otherwise the first.
 pub record Order : Type 0 where
   pub account : ℕ
   pub order_type : OrderType
@@ -33,11 +32,10 @@ pub record Tick : Type 0 where
   pub price : ℕ
   pub qty : ℕ
 
--- A command: one of nine kinds of reference records, an order, a feed, a cancel, a result (the
--- completion of a trade at a price), one of three text updates, a deposit, a withdrawal, or the
--- first day of one-day settlement. `account`, `trade` and `trades` are ids; `price` and `amount`
--- are in cents; `first` and `last` are stamps, both included, in milliseconds since 1970-01-01 UTC;
--- `day` is in days since 1970-01-01.
+-- A command: a reference record of one of nine kinds, an order, a feed, a cancel, a result
+-- (completion), a text update, a deposit, a withdrawal, or the first day of one-day settlement.
+-- `account`, `trade` and `trades` are ids; `price` and `amount` are in cents; `first` and `last`
+-- are stamps, both included, in milliseconds of UTC, and `day` in days, since 1970-01-01.
 pub data Command : Type 0 where
   AddBroker : Broker → Command
   AddCustomer : Customer → Command
@@ -59,9 +57,8 @@ pub data Command : Type 0 where
   WithdrawCash : (account amount : ℕ) → Command
   SetOneDay : (day : ℕ) → Command
 
--- The estimate of an order, in cents: the price of a share, the buy value and the sell value of the
--- shares that the order would close, the tax on their gain, the commission, the charge, and the
--- assets of the account before the order.
+-- The estimate of an order, in cents: price of a share, buy and sell value of the shares that it
+-- would close, tax on their gain, commission, charge, and assets of the account before the order.
 pub record Estimate : Type 0 where
   pub price : ℕ
   pub buy_value : ℕ
@@ -71,9 +68,8 @@ pub record Estimate : Type 0 where
   pub charge : ℕ
   pub assets : ℤ
 
--- The figures of a completed trade. `commission`, `tax`, the settlement amount (`amount`), the buy
--- value and the sell value of the closed shares, and the balance of the account after the
--- completion are in cents; `due_day` is in days since 1970-01-01.
+-- The figures of a completion, in cents; `due_day` in days since 1970-01-01. `amount` is the
+-- settlement amount, the values are of the closed shares, and `balance` is the new balance.
 pub record Completion : Type 0 where
   pub commission : ℕ
   pub tax : ℕ
@@ -83,15 +79,13 @@ pub record Completion : Type 0 where
   pub sell_value : ℕ
   pub balance : ℤ
 
--- The reply to an accepted command, with its stamp and the figures of its kind, or to an estimate.
--- Amounts are in cents.
+-- The reply to an accepted command or to an estimate, with the figures of its kind, in cents.
 pub data Reply : Type 0 where
   -- The reply to a reference record or to the first day of one-day settlement: the stamp only.
   Booked : (stamp : ℕ) → Reply
   -- The reply to an order: the id of its trade, the first status and the estimate.
   Ordered : (stamp trade : ℕ) → Status → Estimate → Reply
-  -- The reply to a feed: the ids of the trades that it triggered, in the sequence of
-  -- `triggered_trade_ids`.
+  -- The reply to a feed: the ids of the trades that it triggered (`triggered_trade_ids`).
   Ticked : (stamp : ℕ) → (triggered : List ℕ) → Reply
   -- The reply to a cancel: the stamp only.
   CanceledTrade : (stamp : ℕ) → Reply
@@ -99,8 +93,7 @@ pub data Reply : Type 0 where
   CompletedTrade : (stamp : ℕ) → Completion → Reply
   -- The reply to a text update: the number of trades that it selects.
   Changed : (stamp count : ℕ) → Reply
-  -- The reply to a deposit or a withdrawal: the number of its cash row, and the balance of the
-  -- account after it.
+  -- The reply to a deposit or a withdrawal: its cash row's number, and the account's new balance.
   MovedCash : (stamp move : ℕ) → (balance : ℤ) → Reply
   -- The reply to an estimate, which books nothing and has no stamp. It is the reply to no command.
   Estimated : Estimate → Reply

@@ -20,10 +20,8 @@ AnswersAndBase B = List Answer × B
 abbrev pub answers_and_base_of_result : {B : Type 0} → ResultOfRows B → AnswersAndBase B
 answers_and_base_of_result result = (result.answers, result.base)
 
--- The answers to the rows of the batch `name`, numbered from 1, parsed by `form` and executed by
--- `step` in sequence from `base` on, and the base after the last answer. Each well-formed row uses
--- the next of the clock readings `moments`; if none is left, neither it nor a row after it has an
--- answer. Malformed rows are refused and use no clock reading.
+-- The answers to the rows of the batch `name`, numbered from 1 and executed from `base` on with the
+-- clock readings `moments`, and the base after the last answer (`result_of_rows`).
 abbrev pub answers_and_base_of_rows : {B C : Type 0} → (Fields → ReadResult C) → RowStep B C → Text → B → List ℕ → List Fields → AnswersAndBase B
 answers_and_base_of_rows form step name base moments rows = answers_and_base_of_result (result_of_rows form step name 1 base moments rows)
 
@@ -40,14 +38,12 @@ RowsAndEndRecord = List Fields × Option Fields
 abbrev pub split_with_row_in_front : Fields → RowsAndEndRecord → RowsAndEndRecord
 split_with_row_in_front row split = (row ∷ split.0, split.1)
 
--- The rows before the first end record, and that record; if there is no end record, all rows, and
--- none as the end record.
+-- The rows before the first end record, and that record; without one, all rows and none.
 abbrev pub split_at_end_record : List Fields → RowsAndEndRecord
 split_at_end_record [] = ([], None)
 split_at_end_record (row ∷ rows) = if is_end_record row then ([], Some row) else split_with_row_in_front row (split_at_end_record rows)
 
--- The batch name of the header of a batch: the second field of a record that has exactly two
--- fields, the word `batch` and a well-formed name; none for any other record.
+-- The batch name of a record of exactly two fields, `batch` and a well-formed name; otherwise none.
 abbrev pub batch_name_of_header : Fields → Option Text
 batch_name_of_header (word ∷ name ∷ []) = if bytes_eq word (codes "batch") then (if is_batch_name name then Some name else None) else None
 batch_name_of_header _ = None
@@ -57,56 +53,48 @@ abbrev pub has_correct_row_count : ℕ → Fields → Bool
 has_correct_row_count n (word ∷ count ∷ []) = bytes_eq count (decimal n)
 has_correct_row_count n _ = false
 
--- The result of a batch with the answers and the base of `run` and the ending `ending`: its output
--- is one line for each answer, numbered from 1, without an `end` line, and each answer counts as a
--- decided row.
+-- The result of a batch with the answers and the base of `run` and the ending `ending`: one line
+-- for each answer, numbered from 1, without an `end` line; each answer is a decided row.
 abbrev pub result_without_end_line : {B : Type 0} → AnswersAndBase B → BatchEnding → BatchResult B
 result_without_end_line run ending = record { text = answer_lines_from 1 run.0; base = run.1; ending = ending; rows = length run.0 }
 
--- The result, with the ending `CorrectEnd`, of a complete batch with the answers and the base of
--- `run`: its output is one line for each answer, numbered from 1, and the `end` line, and each
--- answer counts as a decided row.
+-- The result (`CorrectEnd`) of a complete batch with the answers and the base of `run`: one line
+-- for each answer, numbered from 1, and the `end` line; each answer is a decided row.
 abbrev pub result_of_complete_batch : {B : Type 0} → AnswersAndBase B → BatchResult B
 result_of_complete_batch run = record { text = answer_lines_from 1 run.0 ++ batch_end_line run.0; base = run.1; ending = CorrectEnd; rows = length run.0 }
 
--- The result, with the ending `NoEnd`, of a batch without an end record: the answers of `run`,
--- followed by the refusal `BadText` of the last row, which is not executed but counts as a decided
--- row, and the base of `run`.
+-- The result (`NoEnd`) of a batch without an end record: the answers of `run`, then the refusal
+-- `BadText` of the last row, which is decided but not executed, and the base of `run`.
 abbrev pub result_with_refused_last_row : {B : Type 0} → AnswersAndBase B → BatchResult B
 result_with_refused_last_row run = result_without_end_line (run.0 ++ Refused BadText ∷ [], run.1) NoEnd
 
--- The result of a batch whose rows, answered by `answers_and_base_of_rows`, are followed by the end
--- record `last`: complete if this record has the number of the rows (`has_correct_row_count`),
--- otherwise with the ending `BadEnd`.
+-- The result of a batch whose rows are followed by the end record `last`: complete if this has
+-- their number (`has_correct_row_count`), otherwise with the ending `BadEnd`.
 abbrev pub result_with_end_record : {B C : Type 0} → (Fields → ReadResult C) → RowStep B C → Text → B → List ℕ → List Fields → Fields → BatchResult B
 result_with_end_record form step name base moments rows last =
     if has_correct_row_count (length rows) last then result_of_complete_batch (answers_and_base_of_rows form step name base moments rows)
     else result_without_end_line (answers_and_base_of_rows form step name base moments rows) BadEnd
 
--- The result, with the ending `NoEnd`, of a batch without an end record: its last row is refused
--- with `BadText` and not executed, after the rows before it are answered by
--- `answers_and_base_of_rows`. If it has no rows, the output is empty and the base is unchanged.
+-- The result (`NoEnd`) of a batch without an end record: its last row is refused with `BadText` and
+-- not executed; without rows, the output is empty and the base is unchanged.
 abbrev pub result_without_end_record : {B C : Type 0} → (Fields → ReadResult C) → RowStep B C → Text → B → List ℕ → List Fields → BatchResult B
 result_without_end_record form step name base moments [] = result_without_end_line (answers_and_base_of_rows form step name base moments []) NoEnd
 result_without_end_record form step name base moments (row ∷ rows) =
     result_with_refused_last_row (answers_and_base_of_rows form step name base moments (take (length rows) (row ∷ rows)))
 
--- The result of the batch `name` whose header is followed by the rows of a split and, if the split
--- has one, by its end record.
+-- The result of the batch `name` with the rows and, if any, the end record of a split.
 abbrev pub result_of_batch_rows : {B C : Type 0} → (Fields → ReadResult C) → RowStep B C → Text → B → List ℕ → RowsAndEndRecord → BatchResult B
 result_of_batch_rows form step name base moments (rows, Some last) = result_with_end_record form step name base moments rows last
 result_of_batch_rows form step name base moments (rows, None) = result_without_end_record form step name base moments rows
 
--- The result of a batch with the records `rows` after its header; records after the first end
--- record are ignored. Without a batch name the ending is `BadHeader`, the base is unchanged, the
--- output is empty, and no row is decided.
+-- The result of a batch with the records `rows` after its header; any after the first end record
+-- are ignored. Without a name: `BadHeader`, base unchanged, no output, no decided row.
 abbrev pub result_of_optionally_named_batch : {B C : Type 0} → (Fields → ReadResult C) → RowStep B C → Option Text → B → List ℕ → List Fields → BatchResult B
 result_of_optionally_named_batch form step None base moments rows = record { text = []; base = base; ending = BadHeader; rows = 0 }
 result_of_optionally_named_batch form step (Some name) base moments rows = result_of_batch_rows form step name base moments (split_at_end_record rows)
 
--- The result of a batch with the given records; records after the first end record are ignored. If
--- there is no record, or the first is no header with a well-formed batch name, the ending is
--- `BadHeader`, the base is unchanged, the output is empty, and no row is decided.
+-- The result of a batch with the given records; any after the first end record are ignored. Without
+-- a header with a well-formed name: `BadHeader`, base unchanged, no output, no decided row.
 abbrev pub result_of_batch_records : {B C : Type 0} → (Fields → ReadResult C) → RowStep B C → B → List ℕ → List Fields → BatchResult B
 result_of_batch_records form step base moments [] = result_of_optionally_named_batch form step None base moments []
 result_of_batch_records form step base moments (header ∷ rows) = result_of_optionally_named_batch form step (batch_name_of_header header) base moments rows

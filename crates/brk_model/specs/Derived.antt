@@ -1,7 +1,6 @@
--- The values that follow from a base: positions, summaries, settlements, postings, balances and
--- broker totals, of its completed trades, movements, accounts and first day of one-day settlement;
--- the market value of holdings, which needs its securities too; and the pending trades. Each
--- definition takes the lists that it reads; `done` are the completed trades.
+-- The values that follow from a base: positions, summaries, settlements, postings, balances, broker
+-- totals, the market value of holdings, and the pending trades. Each definition takes the lists
+-- that it reads; `done` are the completed trades.
 use Rattle.std.specs.Prelude.{ℕ, ◌+◌, ◌*◌, false, nat_le, ◌==◌, if◌then◌else◌, List, ◌++◌, length, map, filter, sum_by, Option, Some, None, ℤ, pos, ◌+ℤ◌, ◌-ℤ◌}
 use Rattle.std.specs.Prelude.{◌*ℤ◌, neg_ℤ, bytes_eq}
 use Rattle.std.specs.Option.{option_map_or}
@@ -17,8 +16,7 @@ use Rattle.brk_model.specs.Base.{Base, completed_trades, tax_status_in_accounts,
 use Rattle.brk_model.specs.Base.{has_last_status, last_status_stamp_of_trade, completion_price}
 use Rattle.brk_model.specs.Shares.{Share, Deal, replay, signed_by_side}
 
--- The deal of the completed trade `t`, at its completion price and stamp; the price is 0 if the
--- trade has no completion price.
+-- The deal of the completed trade `t`, at its completion price (0 without one) and stamp.
 abbrev pub deal_of_trade : Trade → Deal
 deal_of_trade t = record {
   trade = t.id;
@@ -33,13 +31,11 @@ deal_of_trade t = record {
 abbrev pub trades_of_account : List Trade → ℕ → List Trade
 trades_of_account done account = filter (λ t. t.account == account) done
 
--- The trades of the list `done` that belong to the account `account` and the symbol `symbol`, in
--- the sequence of the list.
+-- The trades of the list `done` in the account `account` and the symbol `symbol`, in sequence.
 abbrev pub trades_of_position : List Trade → ℕ → Text → List Trade
 trades_of_position done account symbol = filter (λ t. bytes_eq t.symbol symbol) (trades_of_account done account)
 
--- The deals of the trades of `done` in the account `account` and the symbol `symbol`, sorted by
--- completion stamp, ascending; the sort is stable.
+-- The deals of the `trades_of_position`, stably sorted by completion stamp, ascending.
 abbrev pub deals_of_position : List Trade → ℕ → Text → List Deal
 deals_of_position done account symbol = map deal_of_trade (sort_by_key last_status_stamp_of_trade (trades_of_position done account symbol))
 
@@ -69,9 +65,8 @@ abbrev pub settlement_amount : List Account → Trade → ℤ
 settlement_amount accounts t =
     signed_proceeds (side_of_trade_type t.kind) (t.qty * completion_price t) -ℤ pos (t.charge + t.commission + withheld_tax accounts t)
 
--- The number of days from a completion on the day `day` to its settlement: 1 if `rule` has a first
--- day of one-day settlement and `day` is not before it, otherwise 2. Days are counted from
--- 1970-01-01.
+-- The number of days from a completion on `day`, in days since 1970-01-01, to its settlement: 1 if
+-- `rule` has a first day of one-day settlement and `day` is not before it, otherwise 2.
 abbrev pub days_to_settlement : SettleRule → ℕ → ℕ
 days_to_settlement rule day = if option_map_or (λ first. nat_le first day) rule false then 1 else 2
 
@@ -80,20 +75,17 @@ days_to_settlement rule day = if option_map_or (λ first. nat_le first day) rule
 abbrev pub due_day_of_completion_stamp : SettleRule → ℕ → ℕ
 due_day_of_completion_stamp rule stamp = day_of stamp + days_to_settlement rule (day_of stamp)
 
--- The day on which the completed trade `t` settles, in days since 1970-01-01 (SE_CASH_DUE_DATE,
--- Trade-Result): one day after its completion if it was completed on or after the first day of
--- one-day settlement in `rule`, otherwise two days after it.
+-- The due day of the completed trade `t` (SE_CASH_DUE_DATE), in days since 1970-01-01: a day after
+-- its completion if that is on or after the first day in `rule`, otherwise two (Trade-Result).
 abbrev pub due_day : SettleRule → Trade → ℕ
 due_day rule t = due_day_of_completion_stamp rule (last_status_stamp_of_trade t)
 
--- The trades of the list `done` that are cash trades, not margin trades, in the sequence of the
--- list.
+-- The cash trades, not margin trades, of the list `done`, in sequence.
 abbrev pub cash_trades : List Trade → List Trade
 cash_trades done = filter (λ t. t.is_cash) done
 
--- An amount, in cents and below 0 if it is paid out, that is posted to the cash of the account with
--- the id `account` at a stamp: by the trade with the id `trade`, or by a movement if `trade` is
--- none. `name` is the text of its cash row.
+-- An amount in cents, below 0 if paid out, posted to the cash of the account `account` by the trade
+-- `trade`, or by a movement if that is none; `name` is the text of its cash row.
 pub record Posting : Type 0 where
   pub account : ℕ
   pub trade : Option ℕ
@@ -101,19 +93,16 @@ pub record Posting : Type 0 where
   pub amount : ℤ
   pub name : Text
 
--- The posting of the completed cash trade `t`: its settlement amount, to its account, at its
--- completion stamp, with the name of its cash row.
+-- The posting of the completed cash trade `t`: its settlement amount, at its completion stamp.
 abbrev pub posting_of_trade : List Account → Trade → Posting
 posting_of_trade accounts t =
     record { account = t.account; trade = Some t.id; stamp = last_status_stamp_of_trade t; amount = settlement_amount accounts t; name = t.cash_name }
 
--- The posting of the movement `m`: its amount, to its account, at its stamp, with its name and
--- without a trade.
+-- The posting of the movement `m`, which has no trade.
 abbrev pub posting_of_movement : Movement → Posting
 posting_of_movement m = record { account = m.account; trade = None; stamp = m.stamp; amount = m.amount; name = m.name }
 
--- The postings of the cash trades in `done`, followed by the postings of `movements`, each in the
--- sequence of its list.
+-- The postings of the cash trades in `done`, then of `movements`, each in sequence.
 abbrev pub postings : List Account → List Trade → List Movement → List Posting
 postings accounts done movements = map (posting_of_trade accounts) (cash_trades done) ++ map posting_of_movement movements
 
@@ -121,8 +110,7 @@ postings accounts done movements = map (posting_of_trade accounts) (cash_trades 
 abbrev pub postings_sorted_by_stamp : List Posting → List Posting
 postings_sorted_by_stamp posted = sort_by_key (λ p. p.stamp) posted
 
--- The postings of all completed cash trades of `base`, followed by those of all its movements, each
--- in the sequence of the base.
+-- The postings of all completed cash trades of `base`, then of all its movements, each in sequence.
 abbrev pub postings_of_base : Base → List Posting
 postings_of_base base = postings base.accounts (completed_trades base) base.movements
 
@@ -145,18 +133,14 @@ holdings_market_value securities done account = total_by (λ s. holding_summary_
 abbrev pub trades_of_broker : List Account → List Trade → ℕ → List Trade
 trades_of_broker accounts done broker = filter (λ t. broker_id_in_accounts accounts t.account == broker) done
 
--- The number of the completed trades `done` whose accounts have the broker `broker` (B_NUM_TRADES);
--- an account that is not in `accounts` counts as one with the broker 0.
+-- The number of the `trades_of_broker` of the broker `broker` in `done` (B_NUM_TRADES).
 unfoldable pub trade_count_of_broker : List Account → List Trade → ℕ → ℕ
 trade_count_of_broker accounts done broker = length (trades_of_broker accounts done broker)
 
--- The sum of the commissions, in cents, of the completed trades `done` whose accounts have the
--- broker `broker` (B_COMM_TOTAL); an account that is not in `accounts` counts as one with the
--- broker 0.
+-- The sum of the commissions, in cents, of the `trades_of_broker` of `broker` (B_COMM_TOTAL).
 unfoldable pub commission_total_of_broker : List Account → List Trade → ℕ → ℕ
 commission_total_of_broker accounts done broker = sum_by (λ t. t.commission) (trades_of_broker accounts done broker)
 
--- The trades of the list whose last status is `Pending`, in the sequence of the list
--- (TRADE_REQUEST).
+-- The trades of the list whose last status is `Pending`, in sequence (TRADE_REQUEST).
 abbrev pub pending_trades : List Trade → List Trade
 pending_trades trades = filter (has_last_status Pending) trades

@@ -8,9 +8,8 @@ use Rattle.brk_model.specs.Records.{Security, Trade}
 use Rattle.brk_model.specs.Base.{Base, has_last_status, trade_with_status_change, base_with_updated_trades}
 use Rattle.brk_model.specs.Commands.{Tick}
 
--- True if a market price `price` triggers a trade of this type with the bid price `bid`, both in
--- cents: at or below the bid for a stop-loss and a limit buy, at or above it for a limit sell, and
--- never for a market type.
+-- True if the market price `price` triggers a trade with the bid `bid`, both in cents: at or below
+-- the bid for stop-loss and limit buy, at or above it for limit sell, never for a market type.
 abbrev pub is_triggering_price : TradeType → ℕ → ℕ → Bool
 is_triggering_price StopLoss bid price = nat_le price bid
 is_triggering_price LimitSell bid price = nat_le bid price
@@ -18,26 +17,21 @@ is_triggering_price LimitBuy bid price = nat_le price bid
 is_triggering_price MarketBuy bid price = false
 is_triggering_price MarketSell bid price = false
 
--- True if the tick `tick` triggers the trade `t`: the trade is pending, has the symbol of the tick,
--- and the price of the tick triggers it.
+-- True if the trade `t` is pending, has the symbol of the tick, and the tick's price triggers it.
 abbrev pub is_triggered_by_tick : Tick → Trade → Bool
 is_triggered_by_tick tick t = has_last_status Pending t && bytes_eq t.symbol tick.symbol && is_triggering_price t.kind t.bid tick.price
 
--- The security `s` after the tick `tick`: its last price is the price of the tick, its stamp is
--- `stamp`, and its volume is increased by the quantity of the tick.
+-- The security `s` with a tick's price, the stamp `stamp`, and the quantity added to the volume.
 abbrev pub security_after_tick : ℕ → Tick → Security → Security
 security_after_tick stamp tick s = record s { last_price = tick.price; volume = s.volume + tick.qty; moment = stamp }
 
--- The base `base` in which each security with the symbol of the tick `tick` has the price of the
--- tick, the volume increased by the quantity of the tick, and the stamp `stamp`; all else is
--- unchanged.
+-- The base `base` with each security of the tick's symbol updated (`security_after_tick`).
 abbrev pub base_with_security_after_tick : ℕ → Tick → Base → Base
 base_with_security_after_tick stamp tick base =
     record base { securities = update_where (λ s. bytes_eq s.symbol tick.symbol) (security_after_tick stamp tick) base.securities }
 
--- The base after the tick `tick`, executed at `stamp` on `base`: its security is updated
--- (`base_with_security_after_tick`), and a status change to `Submitted` at `stamp` is added to each
--- trade that the tick triggers.
+-- The base after the tick `tick` at `stamp`: its security is updated, and a status change to
+-- `Submitted` at `stamp` is added to each trade that it triggers.
 abbrev pub base_after_tick : ℕ → Base → Tick → Base
 base_after_tick stamp base tick =
     base_with_updated_trades (is_triggered_by_tick tick) (trade_with_status_change stamp Submitted) (base_with_security_after_tick stamp tick base)
@@ -46,9 +40,8 @@ base_after_tick stamp base tick =
 unfoldable pub base_after_ticks : ℕ → Base → List Tick → Base
 base_after_ticks stamp base ticks = fold (base_after_tick stamp) base ticks
 
--- The ids of the trades that the ticks `ticks` trigger if they are executed in sequence on `base`,
--- each at `stamp`: in the sequence of the ticks, and for one tick in the sequence of the trades of
--- the base.
+-- The ids of the trades that the ticks trigger, executed in sequence on `base`, each at `stamp`: in
+-- the sequence of the ticks, and for one tick of the trades of the base.
 unfoldable pub triggered_trade_ids : ℕ → Base → List Tick → List ℕ
 triggered_trade_ids stamp base [] = []
 triggered_trade_ids stamp base (tick ∷ ticks) =

@@ -35,8 +35,7 @@ is_id n = is_in_range 1 greatest_id n
 abbrev pub is_cash_row_number : ℕ → Bool
 is_cash_row_number n = is_in_range 1 greatest_cash_row_number n
 
--- True if the quantity `n`, in shares, is from 1 to the greatest quantity of the schema `schema`,
--- both included.
+-- True if `n` is a quantity of shares in the schema: from 1 to its greatest one, both included.
 abbrev pub is_quantity_in_schema : Schema → ℕ → Bool
 is_quantity_in_schema schema n = is_in_range 1 schema.greatest_qty n
 
@@ -52,8 +51,7 @@ is_tier n = is_in_range 1 3 n
 abbrev pub is_up_to_last_stamp : Option ℕ → ℕ → Bool
 is_up_to_last_stamp last stamp = option_map_or (λ l. nat_le stamp l) last false
 
--- True if the stamp is not after the last stamp of the tables; false if the tables have no last
--- stamp.
+-- True if the stamp is not after the last stamp of the tables, which must exist.
 abbrev pub is_at_most_last_stamp : Tables → ℕ → Bool
 is_at_most_last_stamp tables stamp = is_up_to_last_stamp tables.last stamp
 
@@ -85,13 +83,11 @@ has_customer tables id = is_some (customer_with_id_in_list tables.customers id)
 abbrev pub has_broker : Tables → ℕ → Bool
 has_broker tables id = is_some (find (λ b. b.id == id) tables.brokers)
 
--- True if the batch name of the key is well-formed and its row number is from 1 to `greatest_id`,
--- both included.
+-- True if the batch name of the key is well-formed and its row number is an id (`is_id`).
 abbrev pub is_well_formed_key : Key → Bool
 is_well_formed_key key = is_batch_name key.batch && is_id key.n
 
--- True if the key of a row of KEPT is well-formed; the text of the row and the line of its reply
--- are not checked.
+-- True if the key of a KEPT row is well-formed; the texts of row and reply are not checked.
 abbrev pub is_well_formed_kept_row : Kept → Bool
 is_well_formed_kept_row k = is_well_formed_key k.key
 
@@ -118,9 +114,8 @@ is_well_formed_customer_row c =
 abbrev pub are_well_formed_account_fields : ℕ → Text → ℤ → Bool
 are_well_formed_account_fields id name opening = are_well_formed_id_and_name id name && is_within_amount_limit opening
 
--- True if the id and the name of a row of CUSTOMER_ACCOUNT are well-formed, the absolute values of
--- its opening balance and of its balance, in cents, are at most `greatest_amount`, and its customer
--- and broker exist.
+-- True if id and name of a row of CUSTOMER_ACCOUNT are well-formed, opening balance and balance are
+-- at most `greatest_amount` cents in absolute value, and its customer and broker exist.
 abbrev pub is_well_formed_account_row : Tables → AccountRow → Bool
 is_well_formed_account_row t a =
     are_well_formed_account_fields a.id a.name a.opening
@@ -128,8 +123,7 @@ is_well_formed_account_row t a =
     && has_customer t a.customer
     && has_broker t a.broker
 
--- True if the ACL, the tax id and both names of a permission are well-formed. It does not check
--- that the account exists.
+-- True if ACL, tax id and both names of a permission are well-formed; its account is not checked.
 abbrev pub has_well_formed_permission_texts : Permission → Bool
 has_well_formed_permission_texts p =
     is_acl p.acl
@@ -137,8 +131,7 @@ has_well_formed_permission_texts p =
     && is_name p.last_name
     && is_name p.first_name
 
--- True if the ACL, the tax id and both names of a row of ACCOUNT_PERMISSION are well-formed, and
--- its account exists.
+-- True if ACL, tax id and both names of a permission are well-formed, and its account exists.
 abbrev pub is_well_formed_permission_row : Tables → Permission → Bool
 is_well_formed_permission_row t p = has_well_formed_permission_texts p && has_account t p.account
 
@@ -146,16 +139,14 @@ is_well_formed_permission_row t p = has_well_formed_permission_texts p && has_ac
 abbrev pub are_well_formed_listing_texts : Text → Text → Text → Text → Bool
 are_well_formed_listing_texts symbol name exchange sector = is_symbol symbol && is_name name && is_exchange exchange && is_name sector
 
--- True if the symbol, the name, the exchange and the sector of a row of SECURITY are well-formed,
--- and a LAST_TRADE row of the symbol exists.
+-- True if the texts of a row of SECURITY are well-formed and a LAST_TRADE row of its symbol exists.
 abbrev pub is_well_formed_security_row : Tables → SecurityRow → Bool
 is_well_formed_security_row t s =
     are_well_formed_listing_texts s.symbol s.name s.exchange s.sector
     && list_any (λ l. bytes_eq l.symbol s.symbol) t.last_trades
 
 -- True if the security of a row of LAST_TRADE exists, its stamp is not after the last stamp, which
--- must exist, its price is within its limits (`is_price`), and its volume, in shares, is at most
--- `greatest_amount`.
+-- must exist, its price is within its limits, and its volume is at most `greatest_amount` shares.
 abbrev pub is_well_formed_last_trade_row : Tables → LastTradeRow → Bool
 is_well_formed_last_trade_row t l =
     has_security t l.symbol
@@ -163,14 +154,12 @@ is_well_formed_last_trade_row t l =
     && is_price l.price
     && nat_le l.volume greatest_amount
 
--- True if the tier of a row of CHARGE is from 1 to 3, both included, and its amount is at most
--- `greatest_charge` cents.
+-- True if the tier of a row of CHARGE is 1 to 3 and its amount at most `greatest_charge` cents.
 abbrev pub is_well_formed_charge_row : Charge → Bool
 is_well_formed_charge_row c = is_tier c.tier && nat_le c.amount greatest_charge
 
--- True if the tier and the exchange of the band are well-formed, and both bounds, in shares, are
--- from 1 to the greatest quantity of the schema `schema`, both included. Their order is not
--- checked.
+-- True if the tier and the exchange of the band are well-formed and both bounds are quantities in
+-- the schema (`is_quantity_in_schema`); their order is not checked.
 abbrev pub has_well_formed_tier_exchange_and_bounds : Schema → Band → Bool
 has_well_formed_tier_exchange_and_bounds schema b =
     is_tier b.tier
@@ -178,17 +167,15 @@ has_well_formed_tier_exchange_and_bounds schema b =
     && is_quantity_in_schema schema b.from_qty
     && is_quantity_in_schema schema b.to_qty
 
--- True if the tier, the exchange and the bounds of a row of COMMISSION_RATE are well-formed in the
--- schema `schema`, its lower bound is at most its upper bound, and its rate, in hundredths of a
--- percent, is at most `greatest_commission_rate`.
+-- True if tier, exchange and bounds of a row of COMMISSION_RATE are well-formed, the lower bound is
+-- at most the upper, and the rate, in hundredths of a percent, is within its limit.
 abbrev pub is_well_formed_band_row : Schema → Band → Bool
 is_well_formed_band_row schema b =
     has_well_formed_tier_exchange_and_bounds schema b
     && nat_le b.from_qty b.to_qty
     && nat_le b.rate greatest_commission_rate
 
--- True if the id and the name of a row of TAXRATE are well-formed and its rate, in
--- hundred-thousandths, is at most `greatest_tax_rate`.
+-- True if id and name of a TAXRATE row are well-formed and its rate is at most `greatest_tax_rate`.
 abbrev pub is_well_formed_tax_rate_row : TaxRate → Bool
 is_well_formed_tax_rate_row r = are_well_formed_id_and_name r.id r.name && nat_le r.rate greatest_tax_rate
 
@@ -196,20 +183,17 @@ is_well_formed_tax_rate_row r = are_well_formed_id_and_name r.id r.name && nat_l
 abbrev pub is_well_formed_customer_tax_row : Tables → CustomerTax → Bool
 is_well_formed_customer_tax_row t x = has_customer t x.customer && list_any (λ r. r.id == x.tax) t.tax_rates
 
--- True if `is_done` is true and there is a price within its limits, or `is_done` is false and there
--- is no price.
+-- True if `is_done` and there is a price within its limits, or not `is_done` and there is none.
 abbrev pub has_price_exactly_if : Bool → Option ℕ → Bool
 has_price_exactly_if is_done price = if is_done then option_map_or is_price price false else is_none price
 
--- True if the TRADE row has a price within its limits and its trade has a TRADE_HISTORY row with
--- the status `Completed`, or it has no price and its trade has no such row.
+-- True if the TRADE row has a valid price if TRADE_HISTORY has its completion, and none otherwise.
 abbrev pub has_price_matching_completion : Tables → TradeRow → Bool
 has_price_matching_completion t row =
     has_price_exactly_if (list_any (λ h. is_same_trade_status h.status Completed) (history_rows_with_trade_id t row.id)) row.price
 
--- True if the numbers of a trade are within their limits: its id (`is_id`), its quantity in shares
--- (`is_quantity_in_schema`), and, in cents, its bid (`is_price`), its charge (at most
--- `greatest_charge`), and its commission and its tax (each at most `greatest_amount`).
+-- True if the numbers of a trade are within their limits: id, quantity (`is_quantity_in_schema`),
+-- and, in cents, bid, charge (`greatest_charge`), and commission and tax (`greatest_amount`).
 abbrev pub are_trade_numbers_in_range : Schema → (id qty bid charge commission tax : ℕ) → Bool
 are_trade_numbers_in_range schema id qty bid charge commission tax =
     is_id id
@@ -219,10 +203,9 @@ are_trade_numbers_in_range schema id qty bid charge commission tax =
     && nat_le commission greatest_amount
     && nat_le tax greatest_amount
 
--- True if the id, the quantity, the bid, the charge, the commission and the tax of a row of TRADE
--- are within their limits in the schema `schema` (`are_trade_numbers_in_range`), its stamp is not
--- after the last stamp, which must exist, its security and account exist, and it passes
--- `has_price_matching_completion`. The status and the executor are not checked.
+-- True if the numbers of a row of TRADE are within their limits (`are_trade_numbers_in_range`), its
+-- stamp is not after the last stamp, which must exist, its security and account exist, and its
+-- price matches its history. Status and executor are not checked.
 abbrev pub is_well_formed_trade_row : Schema → Tables → TradeRow → Bool
 is_well_formed_trade_row schema t row =
     are_trade_numbers_in_range schema row.id row.qty row.bid row.charge row.commission row.tax
@@ -231,8 +214,7 @@ is_well_formed_trade_row schema t row =
     && has_account t row.account
     && has_price_matching_completion t row
 
--- True if the status is not `Completed`, or a completion at the stamp settles, by the first day of
--- one-day settlement `rule`, at the latest on the greatest day, 9999-12-31.
+-- True if the status is not `Completed`, or its due day by `rule` is at most 9999-12-31.
 abbrev pub settles_in_calendar_if_completed : SettleRule → Status → ℕ → Bool
 settles_in_calendar_if_completed rule status stamp = not (is_same_trade_status status Completed) || nat_le (due_day_of_completion_stamp rule stamp) greatest_day
 
@@ -254,9 +236,8 @@ is_well_formed_request_row schema t r =
     && is_price r.bid
     && has_broker t r.broker
 
--- True if the price of a row of HOLDING is within its limits (`is_price`), its stamp is not after
--- the last stamp, which must exist, and its trade, account and security exist. The quantity is not
--- checked.
+-- True if trade, account and security of a row of HOLDING exist, its stamp is not after the last
+-- stamp, which must exist, and its price is within its limits; the quantity is not checked.
 abbrev pub is_well_formed_holding_row : Tables → HoldingRow → Bool
 is_well_formed_holding_row t h =
     has_trade t h.trade
@@ -277,55 +258,48 @@ is_well_formed_summary_row schema t s =
 abbrev pub is_well_formed_holding_history_row : Tables → HoldingHistoryRow → Bool
 is_well_formed_holding_history_row t h = has_trade t h.lot && has_trade t h.trade
 
--- True if the text is `Cash Account` or `Cash`, for a cash trade (`is_cash` is true), or `Margin`
--- or `Margin Account`, for a margin trade (`is_cash` is false).
+-- True if `word` is `Cash Account` or `Cash` if `is_cash`, otherwise `Margin` or `Margin Account`.
 abbrev pub is_cash_type_of_trade : Bool → Text → Bool
 is_cash_type_of_trade is_cash word =
     if is_cash then bytes_eq word (codes "Cash Account") || bytes_eq word (codes "Cash")
     else bytes_eq word (codes "Margin") || bytes_eq word (codes "Margin Account")
 
--- True if the trade of a row of SETTLEMENT exists, the cash type of the row is one of the two that
--- this trade may have (`is_cash_type_of_trade`), the due day is at most the greatest day,
--- 9999-12-31, and the absolute value of the amount, in cents, is at most `greatest_amount`.
+-- True if the trade of a row of SETTLEMENT exists and may have its cash type, the due day is at
+-- most 9999-12-31, and the absolute value of the amount is at most `greatest_amount` cents.
 abbrev pub is_well_formed_settlement_row : Tables → SettlementRow → Bool
 is_well_formed_settlement_row t s =
     option_map_or (λ row. is_cash_type_of_trade row.is_cash s.cash_type) (trade_row_with_id t s.trade) false
     && nat_le s.due_day greatest_day
     && is_within_amount_limit s.amount
 
--- True if `name` is one of the two names that a cash row of the trade of the TRADE row may have:
--- with " shares of " or with " Shares of ".
+-- True if `name` is a cash row name of the trade of `row`, with " shares of " or " Shares of ".
 abbrev pub is_cash_row_name_of_trade : Tables → Text → TradeRow → Bool
 is_cash_row_name_of_trade t name row =
     bytes_eq name (cash_row_name (codes " shares of ") (base_of_tables t) (trade_of_row t row))
     || bytes_eq name (cash_row_name (codes " Shares of ") (base_of_tables t) (trade_of_row t row))
 
--- True if the trade of a row of CASH_TRANSACTION exists, the name of the row is one of the two that
--- a cash row of this trade may have (`is_cash_row_name_of_trade`), the stamp is not after the last
--- stamp, which must exist, and the absolute value of the amount, in cents, is at most
--- `greatest_amount`.
+-- True if the trade of a row of CASH_TRANSACTION exists and may have its name
+-- (`is_cash_row_name_of_trade`), the stamp is not after the last stamp, which must exist, and the
+-- absolute value of the amount is at most `greatest_amount` cents.
 abbrev pub is_well_formed_cash_transaction_row : Tables → OldCashRow → Bool
 is_well_formed_cash_transaction_row t c =
     option_map_or (is_cash_row_name_of_trade t c.name) (trade_row_with_id t c.trade) false
     && is_at_most_last_stamp t c.stamp
     && is_within_amount_limit c.amount
 
--- True if a movement may have this name and this amount in cents: `Deposit` and above 0, or
--- `Withdrawal` and below 0.
+-- True for the name `Deposit` and an amount above 0, and for `Withdrawal` and an amount below 0.
 abbrev pub is_movement_name_and_amount : Text → ℤ → Bool
 is_movement_name_and_amount name amount =
     (bytes_eq name (codes "Deposit") && int_lt (pos 0) amount) || (bytes_eq name (codes "Withdrawal") && int_lt amount (pos 0))
 
--- True if the trade with the id `trade` exists, and the name of the CASH_MOVE row is one of the two
--- that a cash row of that trade may have.
+-- True if the trade `trade` exists and may have the name of the CASH_MOVE row.
 abbrev pub has_cash_row_name_of_trade : Tables → CashRow → ℕ → Bool
 has_cash_row_name_of_trade t r trade = option_map_or (is_cash_row_name_of_trade t r.name) (trade_row_with_id t trade) false
 
--- True if the number of a row of CASH_MOVE is within its limits (`is_cash_row_number`), the
--- absolute value of its amount, in cents, is at most `greatest_amount`, its account exists, and its
--- stamp is not after the last stamp, which must exist. If the row has a trade, this trade exists
--- and the name of the row is one of the two that a cash row of this trade may have; otherwise a
--- movement may have the name and the amount (`is_movement_name_and_amount`).
+-- True if the number of a row of CASH_MOVE is within its limits, the absolute value of its amount
+-- is at most `greatest_amount` cents, its account exists, and its stamp is not after the last
+-- stamp, which must exist. If it has a trade, this exists and may have the name of the row;
+-- otherwise a movement may have the name and the amount (`is_movement_name_and_amount`).
 abbrev pub is_well_formed_cash_move_row : Tables → CashRow → Bool
 is_well_formed_cash_move_row t r =
     is_cash_row_number r.id
@@ -338,8 +312,7 @@ is_well_formed_cash_move_row t r =
 abbrev pub trade_ids_of_cash_rows : List CashRow → List ℕ
 trade_ids_of_cash_rows rows = flat_map (λ r. option_to_list r.trade) rows
 
--- True if, of the tables CASH_MOVE and SETTLE_RULE, those that the schema `schema` lacks have no
--- rows.
+-- True if each of CASH_MOVE and SETTLE_RULE that the schema `schema` lacks has no rows.
 abbrev pub has_rows_only_in_tables_of_schema : Schema → Tables → Bool
 has_rows_only_in_tables_of_schema schema t = (schema.has_cash_move_table || (length t.moves == 0)) && (schema.has_settle_rule_table || is_none t.rule)
 
@@ -361,15 +334,13 @@ is_within_customer_limits t c =
     nat_le (length (filter (λ a. a.customer == c.id) t.accounts)) most_accounts_per_customer
     && nat_le (tax_rate_sum_of_customer (base_of_tables t) c.id) greatest_tax_rate
 
--- True if the rows are sorted by the key that `key` returns for each, strictly ascending
--- (`is_key_less`), so that no key occurs twice.
+-- True if the rows are sorted by `key`, strictly ascending (`is_key_less`): no key occurs twice.
 abbrev pub is_sorted_by_unique_key : {Row : Type 0} → (Row → List KeyPart) → List Row → Bool
 is_sorted_by_unique_key key [] = true
 is_sorted_by_unique_key key (a ∷ []) = true
 is_sorted_by_unique_key key (a ∷ b ∷ rows) = is_key_less (key a) (key b) && is_sorted_by_unique_key key (b ∷ rows)
 
--- True if the rows of every table except DESK and SETTLE_RULE, which have at most one row, are
--- sorted by their key, strictly ascending, so that no key occurs twice in a table.
+-- True if all tables, except DESK and SETTLE_RULE, are sorted by their key, strictly ascending.
 unfoldable pub has_tables_sorted_by_unique_key : Tables → Bool
 has_tables_sorted_by_unique_key t =
     is_sorted_by_unique_key kept_key t.kept
@@ -399,13 +370,12 @@ has_distinct_tax_ids [] = true
 has_distinct_tax_ids (c ∷ customers) = not (list_any (λ d. bytes_eq d.tax_id c.tax_id) customers) && has_distinct_tax_ids customers
 
 -- True if the tables `t` satisfy the condition `Form` in the schema `schema`. Each row passes the
--- check of its table: of formats, limits and references. The rows of every table except DESK and
--- SETTLE_RULE are sorted by their key, no key occurs twice in a table, and no two customers have
--- equal tax ids. Bands do not overlap, no customer is above the limits of accounts and of tax
--- rates, and trades are numbered from 1 without a gap. No trade has two rows of CASH_MOVE, and at
--- most `greatest_id` rows of CASH_MOVE have no trade. The last stamp and the first day of one-day
--- settlement, if they are set, are at most 9999-12-31. CASH_MOVE and SETTLE_RULE have no rows if
--- the schema lacks them.
+-- check of its table: formats, limits and references. Every table except DESK and SETTLE_RULE is
+-- sorted by key, no key occurs twice in it, and no two customers have equal tax ids. Bands do not
+-- overlap, no customer exceeds the limits of accounts and of tax rates, and trades are numbered
+-- from 1 without a gap. No trade has two rows of CASH_MOVE, and at most `greatest_id` of these have
+-- no trade. The last stamp and the first day of one-day settlement, if set, are at most 9999-12-31.
+-- CASH_MOVE and SETTLE_RULE are empty if the schema lacks them.
 unfoldable pub satisfies_form_condition : Schema → Tables → Bool
 satisfies_form_condition schema t =
     is_last_stamp_in_calendar t.last

@@ -51,8 +51,7 @@ value_if_valid test refusal (Some x) = if test x then Ok x else Err refusal
 abbrev pub read_valid_text : (Text → Bool) → Text → ReadResult Text
 read_valid_text test text = value_if_valid test BadText (Some text)
 
--- The number that the text parses as, if it is from `low` to `high`, both included; otherwise the
--- refusal `refusal`.
+-- The number that the text parses as, from `low` to `high`, both included; otherwise `refusal`.
 abbrev pub read_number_in_range : ℕ → ℕ → Refusal → Text → ReadResult ℕ
 read_number_in_range low high refusal text = value_if_valid (λ n. is_in_range low high n) refusal (decimal_number_of_text text)
 
@@ -60,13 +59,11 @@ read_number_in_range low high refusal text = value_if_valid (λ n. is_in_range l
 abbrev pub read_id : Text → ReadResult ℕ
 read_id = read_number_in_range 1 greatest_id BadText
 
--- The stamp that a text parses as, from 0 to `greatest_stamp`, in milliseconds since 1970-01-01
--- UTC; otherwise the refusal `BadText`.
+-- The stamp of a text, 0 to `greatest_stamp`, in milliseconds since 1970-01-01 UTC, or `BadText`.
 abbrev pub read_stamp : Text → ReadResult ℕ
 read_stamp = read_number_in_range 0 greatest_stamp BadText
 
--- The quantity of shares that a text parses as, from 1 to `greatest_qty`; otherwise the refusal
--- `BadQty`.
+-- The quantity that a text parses as, from 1 to `greatest_qty` shares; otherwise `BadQty`.
 abbrev pub read_quantity : Text → ReadResult ℕ
 read_quantity = read_number_in_range 1 greatest_qty BadQty
 
@@ -74,13 +71,11 @@ read_quantity = read_number_in_range 1 greatest_qty BadQty
 abbrev pub read_tier : Text → ReadResult ℕ
 read_tier = read_number_in_range 1 3 BadText
 
--- The commission rate that a text parses as, from 0 to `greatest_commission_rate` hundredths of a
--- percent; otherwise the refusal `BadText`.
+-- The commission rate, 0 to `greatest_commission_rate` hundredths of a percent, or `BadText`.
 abbrev pub read_commission_rate : Text → ReadResult ℕ
 read_commission_rate = read_number_in_range 0 greatest_commission_rate BadText
 
--- The tax rate that a text parses as, from 0 to `greatest_tax_rate` hundred-thousandths; otherwise
--- the refusal `BadText`.
+-- The tax rate that a text parses as, 0 to `greatest_tax_rate` hundred-thousandths, or `BadText`.
 abbrev pub read_tax_rate_number : Text → ReadResult ℕ
 read_tax_rate_number = read_number_in_range 0 greatest_tax_rate BadText
 
@@ -90,23 +85,19 @@ nonnegative_amount (Some (pos n)) = Some n
 nonnegative_amount (Some (negsuc n)) = None
 nonnegative_amount None = None
 
--- The price of a share that a text parses as, from 1 to `greatest_price` cents; otherwise the
--- refusal `BadPrice`.
+-- The price of a share that a text parses as, 1 to `greatest_price` cents; otherwise `BadPrice`.
 abbrev pub read_price : Text → ReadResult ℕ
 read_price text = value_if_valid (λ n. is_in_range 1 greatest_price n) BadPrice (nonnegative_amount (cents_of_text text))
 
--- The charge that a text parses as, from 0 to `greatest_charge` cents; otherwise the refusal
--- `BadText`.
+-- The charge that a text parses as, from 0 to `greatest_charge` cents; otherwise `BadText`.
 abbrev pub read_charge_amount : Text → ReadResult ℕ
 read_charge_amount text = value_if_valid (λ n. nat_le n greatest_charge) BadText (nonnegative_amount (cents_of_text text))
 
--- The amount of a deposit or a withdrawal that a text parses as, from 1 to `greatest_amount` cents;
--- otherwise the refusal `BadText`.
+-- The amount of a movement that a text parses as, 1 to `greatest_amount` cents, or `BadText`.
 abbrev pub read_movement_amount : Text → ReadResult ℕ
 read_movement_amount text = value_if_valid (λ n. is_in_range 1 greatest_amount n) BadText (nonnegative_amount (cents_of_text text))
 
--- The day that a text parses as, in days since 1970-01-01, at most `greatest_day`; otherwise the
--- refusal `BadText`.
+-- The day that a text parses as, at most `greatest_day` days since 1970-01-01, or `BadText`.
 abbrev pub read_day : Text → ReadResult ℕ
 read_day text = value_if_valid (λ day. nat_le day greatest_day) BadText (day_of_text text)
 
@@ -179,8 +170,7 @@ trade_type_with_code text = find (λ kind. bytes_eq (trade_type_code kind) text)
 abbrev pub read_trade_type : Text → ReadResult TradeType
 read_trade_type text = value_if_valid (λ kind. Bool.true) BadType (trade_type_with_code text)
 
--- True if the text is `yes_word`; if not, false if it is `no_word`, otherwise the refusal
--- `BadText`.
+-- True if the text is `yes_word`; if not, false if it is `no_word`, otherwise `BadText`.
 abbrev pub read_word_as_boolean : Text → Text → Text → ReadResult Bool
 read_word_as_boolean yes_word no_word text =
     if bytes_eq text yes_word then Ok Bool.true else if bytes_eq text no_word then Ok Bool.false else Err BadText
@@ -189,8 +179,7 @@ read_word_as_boolean yes_word no_word text =
 abbrev pub read_cash_or_margin : Text → ReadResult Bool
 read_cash_or_margin = read_word_as_boolean (codes "cash") (codes "margin")
 
--- True if the text is `lifo` (the last shares are closed first), false if it is `fifo`, otherwise
--- the refusal `BadText`.
+-- True if the text is `lifo` (the last shares are closed first), false if `fifo`, or `BadText`.
 abbrev pub read_lifo_or_fifo : Text → ReadResult Bool
 read_lifo_or_fifo = read_word_as_boolean (codes "lifo") (codes "fifo")
 
@@ -199,8 +188,7 @@ abbrev pub market_type_if_price_is_empty : OrderType → Text → ReadResult Ord
 market_type_if_price_is_empty order_type [] = Ok order_type
 market_type_if_price_is_empty order_type _ = Err BadPrice
 
--- The order type `order_type` with the price that the text parses as, otherwise the refusal
--- `BadPrice`.
+-- The order type `order_type` with the price that the text parses as, otherwise `BadPrice`.
 abbrev pub read_priced_order_type : (ℕ → OrderType) → Text → ReadResult OrderType
 read_priced_order_type order_type text = Ok order_type ⊛ read_price text
 
@@ -210,10 +198,9 @@ abbrev pub refusal_of_unknown_type_by_price_text : Text → ReadResult OrderType
 refusal_of_unknown_type_by_price_text [] = Err BadType
 refusal_of_unknown_type_by_price_text (c ∷ text) = Err BadType ⊛ read_price (c ∷ text)
 
--- The order type of a trade type, with the price that a text parses as. The text must be empty for
--- a market type and a well-formed price for any other type; otherwise the result is the refusal
--- `BadPrice`. Without a trade type the result is the refusal `BadType` if the text is empty or a
--- well-formed price, otherwise `BadPrice`.
+-- The order type of a trade type, with the price that a text parses as: empty for a market type,
+-- well-formed for any other, otherwise the refusal `BadPrice`. Without a trade type the refusal is
+-- `BadType` if the text is empty or a well-formed price, otherwise `BadPrice`.
 abbrev pub order_type_with_price : Option TradeType → Text → ReadResult OrderType
 order_type_with_price None = refusal_of_unknown_type_by_price_text
 order_type_with_price (Some MarketBuy) = market_type_if_price_is_empty asked.MarketBuy
@@ -222,9 +209,8 @@ order_type_with_price (Some StopLoss) = read_priced_order_type (λ price. asked.
 order_type_with_price (Some LimitSell) = read_priced_order_type (λ price. asked.LimitSell price)
 order_type_with_price (Some LimitBuy) = read_priced_order_type (λ price. asked.LimitBuy price)
 
--- The order type that two texts parse as, the code of the trade type and the price, which must be
--- empty for a market type and well-formed for any other; otherwise a refusal, `BadType` if the code
--- is unknown and the price is empty or well-formed, and `BadPrice` in any other case.
+-- The order type that the code of a trade type and the text of its price parse as, or a refusal
+-- (`order_type_with_price`).
 abbrev pub read_order_type : Text → Text → ReadResult OrderType
 read_order_type type_text price_text = order_type_with_price (trade_type_with_code type_text) price_text
 
@@ -234,8 +220,7 @@ abbrev pub read_each_text : {A : Type 0} → (Text → ReadResult A) → List Te
 read_each_text read [] = Ok []
 read_each_text read (text ∷ texts) = Ok (λ x xs. x ∷ xs) ⊛ read text ⊛ read_each_text read texts
 
--- The list if it has 1 to 20 elements; the refusal `BadText` if it is empty, and `TooMany` if it is
--- longer.
+-- The list if it has 1 to 20 elements; `BadText` if it is empty, `TooMany` if it is longer.
 abbrev pub one_to_twenty_elements : {A : Type 0} → List A → ReadResult (List A)
 one_to_twenty_elements [] = Err BadText
 one_to_twenty_elements (x ∷ xs) = if nat_le (length (x ∷ xs)) 20 then Ok (x ∷ xs) else Err TooMany
@@ -245,13 +230,11 @@ abbrev pub check_read_value : {A B : Type 0} → (A → ReadResult B) → ReadRe
 check_read_value check (Ok x) = check x
 check_read_value check (Err refusal) = Err refusal
 
--- The ids if they are distinct and 1 to 20 in number; the refusal `BadText` if one occurs twice or
--- there is none, otherwise `TooMany`.
+-- The 1 to 20 distinct ids; `BadText` if one occurs twice or there is none, otherwise `TooMany`.
 abbrev pub one_to_twenty_distinct_ids : List ℕ → ReadResult (List ℕ)
 one_to_twenty_distinct_ids ids = if all_distinct ids then one_to_twenty_elements ids else Err BadText
 
--- The ids that the texts parse as, one each, if they are distinct and 1 to 20 in number; otherwise
--- a refusal, `TooMany` if all texts are well-formed, the ids are distinct and there are more than
--- 20, and `BadText` in any other case.
+-- The 1 to 20 distinct ids that the texts parse as, one each; otherwise `BadText` if a text is
+-- malformed, an id occurs twice or there is none, else `TooMany`.
 abbrev pub read_distinct_ids : List Text → ReadResult (List ℕ)
 read_distinct_ids texts = check_read_value one_to_twenty_distinct_ids (read_each_text read_id texts)

@@ -10,19 +10,16 @@ use Rattle.brk_model.specs.Answers.{Fields}
 abbrev pub most_input_bytes : ℕ
 most_input_bytes = 67108864
 
--- The text of an input: its first `most_input_bytes` bytes, without a byte order mark at their
--- start.
+-- The text of an input: its first `most_input_bytes` bytes without a leading byte order mark.
 abbrev pub input_text : Text → Text
 input_text input = strip_bom (take most_input_bytes input)
 
--- The records of the text begin with the records `front`. An unknown text (`None`) always satisfies
--- this.
+-- The records of the text begin with `front`. An unknown text (`None`) always satisfies this.
 abbrev pub BeginsWithRecords : Option Text → List Fields → Type 0
 BeginsWithRecords None front = Unit {0}
 BeginsWithRecords (Some text) front = (rest : List Fields) × (records default_config text ≡ front ++ rest)
 
--- The records of the text are exactly the records `all`. An unknown text (`None`) always satisfies
--- this.
+-- The records of the text are exactly `all`. An unknown text (`None`) always satisfies this.
 abbrev pub HasExactlyRecords : Option Text → List Fields → Type 0
 HasExactlyRecords None all = Unit {0}
 HasExactlyRecords (Some text) all = records default_config text ≡ all

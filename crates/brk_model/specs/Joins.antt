@@ -5,23 +5,19 @@ use Rattle.brk_money.specs.Spelling.{Text}
 use Rattle.brk_model.specs.Lists.{sort_by, is_pair_less}
 use Rattle.brk_model.specs.Tables.{Tables, AccountRow, SecurityRow, TradeRow, HistoryRow, CashRow}
 
--- The price, in cents, of the first LAST_TRADE row, in the sequence of the table, with the symbol
--- `symbol`; 0 if there is no such row.
+-- The price, in cents, of the first LAST_TRADE row with the symbol `symbol`, or 0.
 abbrev pub last_price_in_tables : Tables → Text → ℕ
 last_price_in_tables tables symbol = option_map_or (λ row. row.price) (find (λ row. bytes_eq row.symbol symbol) tables.last_trades) 0
 
--- The first SECURITY row, in the sequence of the table, with the symbol `symbol`; none if there is
--- no such row.
+-- The first SECURITY row with the symbol `symbol`, in the sequence of the table, or none.
 abbrev pub security_row_with_symbol : Tables → Text → Option SecurityRow
 security_row_with_symbol tables symbol = find (λ row. bytes_eq row.symbol symbol) tables.securities
 
--- The first TRADE row, in the sequence of the table, with the id `id`; none if there is no such
--- row.
+-- The first TRADE row with the id `id`, in the sequence of the table, or none.
 abbrev pub trade_row_with_id : Tables → ℕ → Option TradeRow
 trade_row_with_id tables id = find (λ row. row.id == id) tables.trades
 
--- The first CUSTOMER_ACCOUNT row, in the sequence of the table, with the id `id`; none if there is
--- no such row.
+-- The first CUSTOMER_ACCOUNT row with the id `id`, in the sequence of the table, or none.
 abbrev pub account_row_with_id : Tables → ℕ → Option AccountRow
 account_row_with_id tables id = find (λ row. row.id == id) tables.accounts
 

@@ -1,5 +1,4 @@
--- The key of each table except DESK and SETTLE_RULE, which have at most one row, and rows sorted by
--- key.
+-- The key of each table except DESK and SETTLE_RULE (at most one row each), and rows sorted by key.
 use Rattle.std.specs.Prelude.{ℕ, Bool, true, false, ◌&&◌, ◌||◌, nat_lt, not, List, [], ◌∷◌}
 use Rattle.brk_money.specs.Spelling.{Text}
 use Rattle.brk_money.specs.Kinds.{trade_type_code, trade_status_code}
@@ -13,16 +12,14 @@ pub data KeyPart : Type 0 where
   number : ℕ → KeyPart
   word : Text → KeyPart
 
--- True if the first part is less than the second: numbers by value, texts in the lexicographic
--- order of bytes, and every number before every text.
+-- True if the first part is less: numbers by value, texts by `is_text_less`, numbers before texts.
 abbrev pub is_key_part_less : KeyPart → KeyPart → Bool
 is_key_part_less (number m) (number n) = nat_lt m n
 is_key_part_less (word s) (word t) = is_text_less s t
 is_key_part_less (number m) (word t) = true
 is_key_part_less (word s) (number n) = false
 
--- True if the first key is less than the second, compared part by part; a key is less than any
--- longer key that begins with it.
+-- True if the first key is less, part by part; a key is less than a longer one that begins with it.
 abbrev pub is_key_less : List KeyPart → List KeyPart → Bool
 is_key_less js [] = false
 is_key_less [] (k ∷ ks) = true
@@ -36,8 +33,7 @@ is_row_key_less key a b = is_key_less (key a) (key b)
 abbrev pub rows_sorted_by_key : {Row : Type 0} → (Row → List KeyPart) → List Row → List Row
 rows_sorted_by_key key rows = sort_by (is_row_key_less key) rows
 
--- The list `rows` with `row` inserted before the first row whose key is not less than the key of
--- `row`, or at the end if there is none; `key` returns the key of a row.
+-- The list `rows` with `row` inserted before the first row whose key is not less, or at the end.
 abbrev pub insert_row_by_key : {Row : Type 0} → (Row → List KeyPart) → Row → List Row → List Row
 insert_row_by_key key row rows = insert_by (is_row_key_less key) row rows
 
@@ -75,8 +71,7 @@ last_trade_key r = word r.symbol ∷ []
 abbrev pub charge_key : Charge → List KeyPart
 charge_key r = word (trade_type_code r.kind) ∷ number r.tier ∷ []
 
--- The primary key of a row of COMMISSION_RATE: the tier, the code of the trade type, the exchange
--- and the lower bound.
+-- The primary key of a row of COMMISSION_RATE: tier, code of the trade type, exchange, lower bound.
 abbrev pub band_key : Band → List KeyPart
 band_key r = number r.tier ∷ word (trade_type_code r.kind) ∷ word r.exchange ∷ number r.from_qty ∷ []
 
@@ -108,8 +103,7 @@ holding_key r = number r.trade ∷ []
 abbrev pub summary_key : SummaryRow → List KeyPart
 summary_key r = number r.account ∷ word r.symbol ∷ []
 
--- The primary key of a row of HOLDING_HISTORY: the trade that opened the lot, and the trade that
--- changed it.
+-- The primary key of a row of HOLDING_HISTORY: the opening and the changing trade of the lot.
 abbrev pub holding_history_key : HoldingHistoryRow → List KeyPart
 holding_history_key r = number r.lot ∷ number r.trade ∷ []
 

@@ -32,10 +32,9 @@ greatest_commission_rate = Rate.GREATEST
 abbrev pub greatest_tax_rate : ℕ
 greatest_tax_rate = TaxRate.GREATEST
 
--- The greatest absolute value of an amount, in cents: of an opening balance, a balance, a movement,
--- a settlement and a cash row (CA_OPEN, CA_BAL, SE_AMT, CT_AMT, CM_AMT), of the commission and the
--- tax of a trade (T_COMM, T_TAX), and of the commission total of a broker (B_COMM_TOTAL). It is
--- also the greatest volume of a security, in shares (LT_VOL).
+-- The greatest absolute value, in cents, of balances, movements, settlements and cash rows
+-- (CA_OPEN, CA_BAL, SE_AMT, CT_AMT, CM_AMT), commissions and taxes of trades (T_COMM, T_TAX) and
+-- commission totals of brokers (B_COMM_TOTAL); also the greatest volume, in shares (LT_VOL).
 abbrev pub greatest_amount : ℕ
 greatest_amount = Cents.GREATEST
 
@@ -43,13 +42,11 @@ greatest_amount = Cents.GREATEST
 abbrev pub greatest_summary_quantity : ℕ
 greatest_summary_quantity = 9999999999
 
--- The greatest id, and the greatest row number in a key; also the greatest number of trades, and of
--- movements.
+-- The greatest id and row number in a key; also the greatest number of trades, and of movements.
 abbrev pub greatest_id : ℕ
 greatest_id = Id.GREATEST
 
--- The greatest number of a cash row (CM_ID): the greatest number of trades plus the greatest number
--- of movements.
+-- The greatest number of a cash row (CM_ID): the most trades plus the most movements.
 abbrev pub greatest_cash_row_number : ℕ
 greatest_cash_row_number = MoveId.GREATEST
 

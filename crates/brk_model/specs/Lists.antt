@@ -1,17 +1,14 @@
--- Functions on lists that std lacks: a sort, a signed sum, an update of some elements, and
--- replacement in texts.
+-- Functions on lists that std lacks: sorts, a signed sum, updates, and replacement in texts.
 use Rattle.std.specs.Prelude.{ℕ, zero, suc, ◌-◌, Bool, true, false, not, ◌&&◌, ◌||◌, ◌==◌, nat_eq, nat_lt, if◌then◌else◌, List, [], ◌∷◌, ◌++◌, length, map}
 use Rattle.std.specs.Prelude.{filter, ℤ, pos, negsuc, ◌+ℤ◌, bytes_eq}
 use Rattle.std.specs.List.{starts_with, list_any}
 
--- The list with `x` inserted before the first element `y` for which `before y x` is false, or at
--- the end if there is none.
+-- The list with `x` inserted before the first `y` for which `before y x` is false, or at the end.
 abbrev pub insert_by : {X : Type 0} → (X → X → Bool) → X → List X → List X
 insert_by before x [] = x ∷ []
 insert_by before x (y ∷ ys) = if before y x then y ∷ insert_by before x ys else x ∷ y ∷ ys
 
--- The elements sorted by `before`, a strict weak order, ascending. The sort is stable: two elements
--- of which neither is before the other keep their sequence.
+-- The elements stably sorted by `before`, a strict weak order, ascending.
 unfoldable pub sort_by : {X : Type 0} → (X → X → Bool) → List X → List X
 sort_by before [] = []
 sort_by before (x ∷ xs) = insert_by before x (sort_by before xs)
@@ -20,8 +17,7 @@ sort_by before (x ∷ xs) = insert_by before x (sort_by before xs)
 abbrev pub sort_by_key : {X : Type 0} → (X → ℕ) → List X → List X
 sort_by_key key xs = sort_by (λ x y. nat_lt (key x) (key y)) xs
 
--- True if the pair (`a`, `b`) is less than the pair (`a'`, `b'`): `a` is less than `a'`, or they
--- are equal and `b` is less than `b'`.
+-- True if `a` is less than `a'`, or they are equal and `b` is less than `b'`.
 abbrev pub is_pair_less : ℕ → ℕ → ℕ → ℕ → Bool
 is_pair_less a a' b b' = nat_lt a a' || ((a == a') && nat_lt b b')
 
@@ -36,8 +32,7 @@ is_zero (pos zero) = true
 is_zero (pos (suc n)) = false
 is_zero (negsuc n) = false
 
--- The list with `change` applied to each element that passes `test`; each other element is
--- unchanged.
+-- The list with `change` applied to each element that passes `test`; the others are unchanged.
 abbrev pub update_where : {X : Type 0} → (X → Bool) → (X → X) → List X → List X
 update_where test change xs = map (λ x. if test x then change x else x) xs
 
@@ -69,13 +64,11 @@ skip_and_replace_text zero part new (c ∷ text) =
     if starts_with nat_eq (c ∷ text) part then new ++ skip_and_replace_text (length part - 1) part new text
     else c ∷ skip_and_replace_text zero part new text
 
--- The text with each occurrence of `part` (not empty) replaced by `new`, from the left, without
--- overlap.
+-- The text with each `part` (not empty) replaced by `new`, from the left, without overlap.
 unfoldable pub replace_text : List ℕ → List ℕ → List ℕ → List ℕ
 replace_text part new text = skip_and_replace_text 0 part new text
 
--- True if the first text is less than the second in the lexicographic order of bytes; a text is
--- less than any longer text that begins with it.
+-- True if the first text is less by the lexicographic order of bytes, as is any proper prefix.
 abbrev pub is_text_less : List ℕ → List ℕ → Bool
 is_text_less xs [] = false
 is_text_less [] (y ∷ ys) = true

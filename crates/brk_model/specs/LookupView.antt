@@ -20,9 +20,8 @@ settlement_record s = codes "settlement" ∷ s.cash_type ∷ day_text s.due_day 
 abbrev pub cash_record : CashRow → List Text
 cash_record c = codes "cash" ∷ decimal c.stamp ∷ cents_text c.amount ∷ c.name ∷ []
 
--- The lookup record of a trade, with 15 fields: the word `trade`, id, stamp, status code, type
--- code, symbol, quantity, bid, executor, price, charge, commission, tax, `cash` or `margin`, and
--- `lifo` or `fifo`. The field of the price is empty if the trade has none.
+-- The lookup record of a trade: `trade`, id, stamp, status code, type code, symbol, quantity, bid,
+-- executor, price (empty if none), charge, commission, tax, `cash` or `margin`, `lifo` or `fifo`.
 abbrev pub trade_record : TradeRow → List Text
 trade_record t =
     codes "trade" ∷ decimal t.id ∷ decimal t.stamp ∷ trade_status_code t.status ∷ trade_type_code t.kind
@@ -34,9 +33,8 @@ trade_record t =
 abbrev pub is_cash_row_of_trade : ℕ → CashRow → Bool
 is_cash_row_of_trade trade row = is_id_of_trade trade row.trade
 
--- The records of the TRADE row `t`: the trade, one for each SETTLEMENT row and each CASH_MOVE row
--- of this trade, in the sequence of the tables, and, sorted by stamp, ascending, one (`history`,
--- stamp, status code) for each of its TRADE_HISTORY rows; the sort is stable.
+-- The records of the TRADE row `t`: the trade, its SETTLEMENT rows, its CASH_MOVE rows, and, stably
+-- sorted by stamp, ascending, its TRADE_HISTORY rows (`history`, stamp, status code).
 abbrev pub trade_lookup_records : Tables → TradeRow → View
 trade_lookup_records tables t =
     trade_record t
@@ -45,8 +43,7 @@ trade_lookup_records tables t =
     ++ map (λ h. codes "history" ∷ decimal h.stamp ∷ trade_status_code h.status
     ∷ []) (sort_by (λ a b. nat_lt a.stamp b.stamp) (history_rows_with_trade_id tables t.id))
 
--- The records (`trade_lookup_records`) of the trades that pass `test`, sorted by stamp, then by id,
--- both ascending; only the first 20 of these trades are included.
+-- The `trade_lookup_records` of the first 20 trades that pass `test`, by stamp, then id, ascending.
 unfoldable pub trade_lookup_view : Tables → (TradeRow → Bool) → View
 trade_lookup_view tables test = flat_map (trade_lookup_records tables) (take 20 (trade_rows_oldest_first (filter test tables.trades)))
 
@@ -62,10 +59,9 @@ trade_touches_lot tables trade lot = list_any (λ row. (row.trade == trade) && (
 abbrev pub stamp_of_touching_trade : Tables → HoldingHistoryRow → ℕ
 stamp_of_touching_trade tables row = option_map_or (λ t. t.stamp) (trade_row_with_id tables row.trade) 0
 
--- One record with the id of the trade, then one (lot, trade that changed it, quantity before,
--- quantity after) for each of the first 20 HOLDING_HISTORY rows of the lots that the trade touched,
--- sorted by the stamp of the trade that changed the lot (`stamp_of_touching_trade`), then by lot,
--- both ascending.
+-- One record with the id of the trade, then one (lot, changing trade, quantity before, quantity
+-- after) for each of the first 20 HOLDING_HISTORY rows of the lots that it touched, sorted by
+-- `stamp_of_touching_trade`, then by lot, both ascending.
 abbrev pub touched_lots_view : Tables → TradeRow → View
 touched_lots_view tables t =
     (decimal t.id ∷ [])
@@ -74,8 +70,7 @@ touched_lots_view tables t =
     (filter (λ row. trade_touches_lot tables t.id row.lot) tables.holding_history)))
 
 -- The `touched_lots_view` of the oldest trade of the account `account` with a stamp (T_DTS) of at
--- least `first`: the one with the least stamp and, of several, the least id. Empty if there is no
--- such trade.
+-- least `first`, of several the one with the least id; empty if there is none.
 unfoldable pub touched_lots_of_oldest_trade : Tables → ℕ → ℕ → View
 touched_lots_of_oldest_trade tables account first =
     flat_map (touched_lots_view tables) (take 1 (trade_rows_oldest_first (filter (λ t. nat_le first t.stamp) (trade_rows_of_account tables account))))

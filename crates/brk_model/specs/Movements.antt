@@ -5,13 +5,11 @@ use Rattle.brk_model.specs.Base.{Base}
 use Rattle.brk_model.specs.Derived.{balance_of_account, postings_of_base}
 use Rattle.brk_model.specs.Commands.{Reply, MovedCash}
 
--- The movement of a deposit at `stamp`: `amount` cents into the account `account`, with the name
--- `Deposit`.
+-- The movement of a deposit of `amount` cents to `account` at `stamp`, with the name `Deposit`.
 abbrev pub deposit_movement : ℕ → ℕ → ℕ → Movement
 deposit_movement stamp account amount = record { account = account; stamp = stamp; amount = pos amount; name = codes "Deposit" }
 
--- The movement of a withdrawal at `stamp`: `amount` cents out of the account `account`, with the
--- name `Withdrawal`.
+-- The movement of a withdrawal of `amount` cents from `account` at `stamp`, named `Withdrawal`.
 abbrev pub withdrawal_movement : ℕ → ℕ → ℕ → Movement
 withdrawal_movement stamp account amount = record { account = account; stamp = stamp; amount = neg_ℤ (pos amount); name = codes "Withdrawal" }
 
@@ -19,8 +17,7 @@ withdrawal_movement stamp account amount = record { account = account; stamp = s
 abbrev pub base_after_movement : Base → Movement → Base
 base_after_movement base m = record base { movements = base.movements ++ m ∷ [] }
 
--- The base `base` with `day`, in days since 1970-01-01, as the first day of one-day settlement, in
--- place of the one that it had, if any.
+-- The base `base` with `day`, in days since 1970-01-01, as the first day of one-day settlement.
 abbrev pub base_with_one_day_settlement_start : Base → ℕ → Base
 base_with_one_day_settlement_start base day = record base { rule = Some day }
 

@@ -23,8 +23,7 @@ SecurityOfTradeExists base t = is_some (security_with_symbol base t.symbol) ≡ 
 abbrev pub AccountOfMovementExists : Base → Movement → Type 0
 AccountOfMovementExists base m = is_some (account_with_id base m.account) ≡ true
 
--- The ids of the trades are `n`, `n + 1` and so on, in the sequence of the list. The empty list
--- always satisfies this.
+-- The ids of the trades are `n`, `n + 1` and so on, in sequence. The empty list satisfies this.
 abbrev pub TradesAreNumberedFrom : ℕ → List Trade → Type 0
 TradesAreNumberedFrom n [] = ⊤
 TradesAreNumberedFrom n (t ∷ ts) = (t.id ≡ n) × TradesAreNumberedFrom (n + 1) ts

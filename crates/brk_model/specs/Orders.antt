@@ -17,13 +17,11 @@ use Rattle.brk_model.specs.Shares.{Share, Deal, buy_value, sell_value, realised_
 use Rattle.brk_model.specs.Derived.{shares_of_position, postings_of_base, balance_of_account, holdings_market_value}
 use Rattle.brk_model.specs.Commands.{Order, Estimate, Reply, Ordered}
 
--- True if the executor `e` has the first name `first`, the last name `last` and the tax id
--- `tax_id`.
+-- True if the executor `e` has the names `first` and `last` and the tax id `tax_id`.
 abbrev pub executor_has_identity : Executor → Text → Text → Text → Bool
 executor_has_identity e first last tax_id = bytes_eq e.first_name first && bytes_eq e.last_name last && bytes_eq e.tax_id tax_id
 
--- True if the executor `e` has the first name, the last name and the tax id of the customer `c` or
--- of one of the `permissions` (Trade-Order, frame 2).
+-- True if `e` has names and tax id of `c` or of one of the `permissions` (Trade-Order, frame 2).
 abbrev pub is_customer_or_has_permission : Customer → List Permission → Executor → Bool
 is_customer_or_has_permission c permissions e =
     executor_has_identity e c.first_name c.last_name c.tax_id || list_any (λ p. executor_has_identity e p.first_name p.last_name p.tax_id) permissions
@@ -40,16 +38,14 @@ may_order_for_account base account e =
 abbrev pub bid_price_of_order : Base → Order → ℕ
 bid_price_of_order base o = unwrap_or (price_of_order_type o.order_type) (last_price base o.symbol)
 
--- The commission, in cents, of the account `account` on `qty` shares of `symbol` at `price` cents
--- each, for the trade type `kind`, by the `commission_band_for_quantity` of the tier of the account
--- and the exchange of the security; none if there is no such band.
+-- The commission, in cents, on `qty` shares of `symbol` at `price` cents each for the type `kind`,
+-- by the band of the account's tier and the security's exchange; none if there is no such band.
 abbrev pub commission_by_band : Base → ℕ → TradeType → Text → ℕ → ℕ → Option ℕ
 commission_by_band base account kind symbol qty price =
     option_map (λ b. commission b.rate qty price) (commission_band_for_quantity base (tier_of_account base account) kind (exchange_of_security base symbol) qty)
 
--- The tax, in cents, on the gain of the deal `d` against the position `shares` of the account
--- `account`, at the sum of the tax rates of its customer; 0 if there is no gain or the account is
--- not taxable.
+-- The tax, in cents, on the gain of the deal `d` against the position `shares`, at the sum of the
+-- tax rates of the account's customer; 0 without a gain or if the account is not taxable.
 abbrev pub tax_on_deal : Base → ℕ → Deal → List Share → ℕ
 tax_on_deal base account d shares =
     if is_taxable_account base account then tax (realised_gain d shares) (tax_rate_sum_of_customer base (customer_id_of_account base account)) else 0
@@ -66,8 +62,7 @@ deal_of_order base o = record {
   is_lifo = o.is_lifo;
 }
 
--- The balance of the account `account` plus the market value of its holdings at last prices, in
--- cents.
+-- The balance of the account plus the market value of its holdings at last prices, in cents.
 abbrev pub assets_of_account : Base → ℕ → ℤ
 assets_of_account base account =
     balance_of_account base.accounts (postings_of_base base) account +ℤ holdings_market_value base.securities (completed_trades base) account
@@ -89,8 +84,7 @@ estimate_against_shares shares base o = record {
 unfoldable pub estimate : Base → Order → Estimate
 estimate base o = estimate_against_shares (shares_of_position (completed_trades base) o.account o.symbol) base o
 
--- The first status of a trade of the type `kind`: `Submitted` for a market type, otherwise
--- `Pending`.
+-- The first status of a trade of type `kind`: `Submitted` for a market type, otherwise `Pending`.
 abbrev pub first_status : TradeType → Status
 first_status kind = if is_market_type kind then Submitted else Pending
 
@@ -98,10 +92,9 @@ first_status kind = if is_market_type kind then Submitted else Pending
 abbrev pub executor_name : Executor → Text
 executor_name e = e.first_name ++ 32 ∷ e.last_name
 
--- The trade that the order `o` creates at `stamp`, with its `bid_price_of_order`, its estimated
--- charge and commission, tax 0, no completion price, and an empty cash type and cash row name. The
--- id of the trade is the number of trades of `base` plus 1. Its only status change is to the
--- `first_status` of its type, at `stamp`.
+-- The trade of the order `o` at `stamp`: its id is the number of trades of `base` plus 1, its only
+-- status change is to `first_status` at `stamp`; bid, charge and commission are as estimated, the
+-- tax is 0, and there is no completion price, cash type or cash row name.
 abbrev pub trade_of_order : Base → ℕ → Order → Trade
 trade_of_order base stamp o = record {
   id = length base.trades + 1;
@@ -126,7 +119,6 @@ trade_of_order base stamp o = record {
 abbrev pub base_after_order : Base → ℕ → Order → Base
 base_after_order base stamp o = record base { trades = base.trades ++ trade_of_order base stamp o ∷ [] }
 
--- The reply to the order `o` that is accepted at `stamp`: the stamp, the trade's id, its first
--- status and the estimate.
+-- The reply to the order `o` accepted at `stamp`: stamp, id of the trade, first status, estimate.
 abbrev pub reply_to_order : Base → ℕ → Order → Reply
 reply_to_order base stamp o = Ordered stamp (length base.trades + 1) (first_status (trade_type_of_order_type o.order_type)) (estimate base o)

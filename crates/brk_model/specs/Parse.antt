@@ -18,42 +18,37 @@ abbrev pub read_broker : List Text → ReadResult Broker
 read_broker (id ∷ name ∷ []) = Ok (λ i n. record { id = i; name = n }) ⊛ read_id id ⊛ read_name name
 read_broker _ = Err BadText
 
--- The customer that exactly five fields parse as (id, tier, tax id, last name, first name),
--- otherwise the refusal `BadText`.
+-- The customer from exactly five fields (id, tier, tax id, last name, first name), or `BadText`.
 abbrev pub read_customer : List Text → ReadResult Customer
 read_customer (id ∷ tier ∷ tax_id ∷ last ∷ first ∷ []) =
     Ok (λ i t x l f. record { id = i; tier = t; tax_id = x; last_name = l; first_name = f })
     ⊛ read_id id ⊛ read_tier tier ⊛ read_tax_id tax_id ⊛ read_name last ⊛ read_name first
 read_customer _ = Err BadText
 
--- The account that exactly six fields parse as (id, customer, broker, name, tax status, opening
--- balance), otherwise the refusal `BadText`.
+-- The account from six fields (id, customer, broker, name, tax status, opening), or `BadText`.
 abbrev pub read_account : List Text → ReadResult Account
 read_account (id ∷ customer ∷ broker ∷ name ∷ tax_status ∷ opening ∷ []) =
     Ok (λ i c b n t o. record { id = i; customer = c; broker = b; name = n; tax_status = t; opening = o })
     ⊛ read_id id ⊛ read_id customer ⊛ read_id broker ⊛ read_name name ⊛ read_tax_status tax_status ⊛ read_opening_balance opening
 read_account _ = Err BadText
 
--- The permission that exactly five fields parse as (account, ACL, tax id, last name, first name),
--- otherwise the refusal `BadText`.
+-- The permission from five fields (account, ACL, tax id, last name, first name), or `BadText`.
 abbrev pub read_permission : List Text → ReadResult Permission
 read_permission (account ∷ acl ∷ tax_id ∷ last ∷ first ∷ []) =
     Ok (λ a c x l f. record { account = a; acl = c; tax_id = x; last_name = l; first_name = f })
     ⊛ read_id account ⊛ read_acl acl ⊛ read_tax_id tax_id ⊛ read_name last ⊛ read_name first
 read_permission _ = Err BadText
 
--- The listing of a security that exactly five fields parse as (symbol, name, exchange, sector,
--- price); otherwise a refusal, `BadPrice` if there are five fields of which only the price is
--- malformed, and `BadText` in any other case.
+-- The listing of a security from exactly five fields (symbol, name, exchange, sector, price);
+-- otherwise `BadPrice` if only the price is malformed, else `BadText`.
 abbrev pub read_listing : List Text → ReadResult Listing
 read_listing (symbol ∷ name ∷ exchange ∷ sector ∷ price ∷ []) =
     Ok (λ s n e c p. record { symbol = s; name = n; exchange = e; sector = c; price = p })
     ⊛ read_symbol symbol ⊛ read_name name ⊛ read_exchange exchange ⊛ read_name sector ⊛ read_price price
 read_listing _ = Err BadText
 
--- The charge that exactly three fields parse as (type, tier, amount); otherwise a refusal,
--- `BadType` if there are three fields of which only the type is malformed, and `BadText` in any
--- other case.
+-- The charge from exactly three fields (type, tier, amount); otherwise `BadType` if only the type
+-- is malformed, else `BadText`.
 abbrev pub read_charge : List Text → ReadResult Charge
 read_charge (kind ∷ tier ∷ amount ∷ []) =
     Ok (λ k t a. record { kind = k; tier = t; amount = a }) ⊛ read_trade_type kind ⊛ read_tier tier ⊛ read_charge_amount amount
@@ -63,44 +58,38 @@ read_charge _ = Err BadText
 abbrev pub bounds_if_ascending : ℕ × ℕ → ReadResult (ℕ × ℕ)
 bounds_if_ascending bounds = if nat_le bounds.0 bounds.1 then Ok bounds else Err BadQty
 
--- The least and the greatest quantity of a band that two texts parse as; the refusal `BadQty` if
--- one or both are malformed, or if the least is greater than the greatest.
+-- The bounds of a band; `BadQty` if one is malformed or the least is greater than the greatest.
 abbrev pub read_quantity_bounds : Text → Text → ReadResult (ℕ × ℕ)
 read_quantity_bounds low high = check_read_value bounds_if_ascending (Ok (λ a b. (a, b)) ⊛ read_quantity low ⊛ read_quantity high)
 
--- The commission band that exactly six fields parse as (tier, type, exchange, least quantity,
--- greatest quantity, rate). Otherwise a refusal: `BadText` if there are fewer or more fields or the
--- tier, the exchange or the rate is malformed; else `BadQty` if `read_quantity_bounds` refuses the
--- quantities; else `BadType`.
+-- The commission band from exactly six fields (tier, type, exchange, least quantity, greatest
+-- quantity, rate). Otherwise `BadText` if the number of fields or the tier, the exchange or the
+-- rate is wrong, else `BadQty` if `read_quantity_bounds` refuses the quantities, else `BadType`.
 abbrev pub read_commission_band : List Text → ReadResult Band
 read_commission_band (tier ∷ kind ∷ exchange ∷ low ∷ high ∷ rate ∷ []) =
     Ok (λ t k e b r. record { tier = t; kind = k; exchange = e; from_qty = b.0; to_qty = b.1; rate = r })
     ⊛ read_tier tier ⊛ read_trade_type kind ⊛ read_exchange exchange ⊛ read_quantity_bounds low high ⊛ read_commission_rate rate
 read_commission_band _ = Err BadText
 
--- The tax rate that exactly three fields parse as (id, name, rate), otherwise the refusal
--- `BadText`.
+-- The tax rate from exactly three fields (id, name, rate), otherwise the refusal `BadText`.
 abbrev pub read_tax_rate : List Text → ReadResult TaxRate
 read_tax_rate (id ∷ name ∷ rate ∷ []) =
     Ok (λ i n r. record { id = i; name = n; rate = r }) ⊛ read_id id ⊛ read_name name ⊛ read_tax_rate_number rate
 read_tax_rate _ = Err BadText
 
--- The tax of a customer that exactly two fields parse as (customer, tax rate), otherwise the
--- refusal `BadText`.
+-- The tax of a customer from exactly two fields (customer, tax rate), or the refusal `BadText`.
 abbrev pub read_customer_tax : List Text → ReadResult CustomerTax
 read_customer_tax (customer ∷ tax ∷ []) = Ok (λ c t. record { customer = c; tax = t }) ⊛ read_id customer ⊛ read_id tax
 read_customer_tax _ = Err BadText
 
--- The executor that three texts parse as (first name, last name, tax id), or the refusal `BadText`
--- if one or more are malformed.
+-- The executor from three texts (first name, last name, tax id), or the refusal `BadText`.
 abbrev pub read_executor : Text → Text → Text → ReadResult Executor
 read_executor first last tax_id = Ok (λ f l x. record { first_name = f; last_name = l; tax_id = x }) ⊛ read_name first ⊛ read_name last ⊛ read_tax_id tax_id
 
--- The order that exactly ten fields parse as (account, type, symbol, quantity, price, `cash` or
--- `margin`, `lifo` or `fifo`, first name, last name, tax id). Otherwise a refusal: `BadText` if
--- there are fewer or more fields or one other than type, quantity and price is malformed; else
--- `BadQty` if the quantity is malformed; else the refusal of `read_order_type` for the type and the
--- price.
+-- The order from exactly ten fields (account, type, symbol, quantity, price, `cash` or `margin`,
+-- `lifo` or `fifo`, first name, last name, tax id). Otherwise `BadText` if the number of fields or
+-- a field other than type, quantity and price is wrong, else `BadQty` if the quantity is malformed,
+-- else the refusal of `read_order_type`.
 abbrev pub read_order : List Text → ReadResult Order
 read_order (account ∷ kind ∷ symbol ∷ qty ∷ price ∷ cash ∷ end ∷ first ∷ last ∷ tax_id ∷ []) =
     Ok (λ a s q t c l e. record { account = a; order_type = t; symbol = s; qty = q; is_cash = c; is_lifo = l; executor = e })
@@ -108,18 +97,16 @@ read_order (account ∷ kind ∷ symbol ∷ qty ∷ price ∷ cash ∷ end ∷ f
     ⊛ read_executor first last tax_id
 read_order _ = Err BadText
 
--- The ticks that the fields parse as, three fields each (symbol, price, quantity); the empty list
--- if there are no fields. Otherwise a refusal: `BadText` if a symbol is malformed or one or two
--- fields are left over; else `BadQty` if a quantity is malformed; else `BadPrice`.
+-- The ticks from three fields each (symbol, price, quantity). Otherwise `BadText` if a symbol is
+-- malformed or fields are left over, else `BadQty` if a quantity is malformed, else `BadPrice`.
 abbrev pub read_ticks : List Text → ReadResult (List Tick)
 read_ticks [] = Ok []
 read_ticks (symbol ∷ price ∷ qty ∷ fields) =
     Ok (λ s p q ticks. record { symbol = s; price = p; qty = q } ∷ ticks) ⊛ read_symbol symbol ⊛ read_price price ⊛ read_quantity qty ⊛ read_ticks fields
 read_ticks _ = Err BadText
 
--- The 1 to 20 ticks of a feed that the fields parse as, three fields each; otherwise a refusal,
--- that of `read_ticks` if it refuses the fields, `BadText` if there are no ticks, and `TooMany` if
--- there are more than 20.
+-- The 1 to 20 ticks of a feed from three fields each; otherwise the refusal of `read_ticks`,
+-- `BadText` without ticks, or `TooMany`.
 abbrev pub read_feed : List Text → ReadResult (List Tick)
 read_feed fields = check_read_value one_to_twenty_elements (read_ticks fields)
 
@@ -128,41 +115,35 @@ abbrev pub read_id_of_trade_to_cancel : List Text → ReadResult ℕ
 read_id_of_trade_to_cancel (trade ∷ []) = read_id trade
 read_id_of_trade_to_cancel _ = Err BadText
 
--- The command `CompleteTrade` that exactly two fields parse as (trade, price); otherwise a refusal,
--- `BadPrice` if there are two fields of which only the price is malformed, and `BadText` in any
--- other case.
+-- The command `CompleteTrade` from exactly two fields (trade, price); otherwise `BadPrice` if only
+-- the price is malformed, else `BadText`.
 abbrev pub read_complete_trade_command : List Text → ReadResult Command
 read_complete_trade_command (trade ∷ price ∷ []) = Ok (λ t p. CompleteTrade t p) ⊛ read_id trade ⊛ read_price price
 read_complete_trade_command _ = Err BadText
 
--- The command `ChangeCashTypes` that exactly three fields parse as (account, first stamp, last
--- stamp), otherwise the refusal `BadText`.
+-- The command `ChangeCashTypes` from three fields (account, first and last stamp), or `BadText`.
 abbrev pub read_cash_type_update : List Text → ReadResult Command
 read_cash_type_update (account ∷ first ∷ last ∷ []) = Ok (λ a f l. ChangeCashTypes a f l) ⊛ read_id account ⊛ read_stamp first ⊛ read_stamp last
 read_cash_type_update _ = Err BadText
 
--- The command `ChangeCashNames` that exactly three fields parse as (symbol, first stamp, last
--- stamp), otherwise the refusal `BadText`.
+-- The command `ChangeCashNames` from three fields (symbol, first and last stamp), or `BadText`.
 abbrev pub read_cash_name_update : List Text → ReadResult Command
 read_cash_name_update (symbol ∷ first ∷ last ∷ []) = Ok (λ s f l. ChangeCashNames s f l) ⊛ read_symbol symbol ⊛ read_stamp first ⊛ read_stamp last
 read_cash_name_update _ = Err BadText
 
--- The command that `moved` returns for the account and the amount in cents that exactly two fields
--- parse as, otherwise the refusal `BadText`.
+-- The command that `moved` returns for two fields (account, amount in cents), or `BadText`.
 abbrev pub read_movement_command : (ℕ → ℕ → Command) → List Text → ReadResult Command
 read_movement_command moved (account ∷ amount ∷ []) = Ok (λ a n. moved a n) ⊛ read_id account ⊛ read_movement_amount amount
 read_movement_command moved _ = Err BadText
 
--- The first day of one-day settlement, in days since 1970-01-01, that exactly one field parses as,
--- otherwise the refusal `BadText`.
+-- The first day of one-day settlement, in days since 1970-01-01, from one field, or `BadText`.
 abbrev pub read_one_day_settlement_start : List Text → ReadResult ℕ
 read_one_day_settlement_start (day ∷ []) = read_day day
 read_one_day_settlement_start _ = Err BadText
 
 -- ---- the kinds
 
--- The type of a named parser: the word of a row kind, of a view or of an explanation, and the
--- parser of the fields after it.
+-- A named parser: the word of a row kind, view or explanation, and the parser of the other fields.
 abbrev pub NamedParser : Type 0 → Type 0
 NamedParser A = Text × (List Text → ReadResult A)
 
@@ -177,8 +158,7 @@ party_and_account_parsers =
     ∷ (codes "customer", read_and_wrap AddCustomer read_customer)
     ∷ (codes "account", read_and_wrap AddAccount read_account) ∷ []
 
--- The parsers of the row kinds for permissions, securities, charges, bands, tax rates and the taxes
--- of customers, each with the word of its kind.
+-- The parsers of the six other kinds of reference rows, each with the word of its kind.
 abbrev pub other_reference_row_parsers : List (NamedParser Command)
 other_reference_row_parsers =
     (codes "permission", read_and_wrap AddPermission read_permission)
@@ -210,8 +190,7 @@ update_row_parsers =
     ∷ (codes "upcash", read_cash_type_update)
     ∷ (codes "uptext", read_cash_name_update) ∷ []
 
--- The parsers of the row kinds for deposits, withdrawals and the first day of one-day settlement,
--- each with the word of its kind.
+-- The parsers of the rows `deposit`, `withdraw` and `oneday`, each with the word of its kind.
 abbrev pub movement_and_one_day_settlement_row_parsers : List (NamedParser Command)
 movement_and_one_day_settlement_row_parsers =
     (codes "deposit", read_movement_command (λ a n. DepositCash a n))
@@ -222,15 +201,13 @@ movement_and_one_day_settlement_row_parsers =
 abbrev pub row_parsers : List (NamedParser Command)
 row_parsers = reference_row_parsers ++ order_feed_and_cancel_parsers ++ result_row_parsers ++ update_row_parsers ++ movement_and_one_day_settlement_row_parsers
 
--- The value that the parser reads from the fields, or its refusal; the refusal `BadText` if there
--- is no parser.
+-- The value that the parser reads from the fields, or its refusal; `BadText` without a parser.
 abbrev pub read_with_parser : {A : Type 0} → Option (NamedParser A) → List Text → ReadResult A
 read_with_parser None fields = Err BadText
 read_with_parser (Some reader) fields = reader.1 fields
 
--- The value that the fields after the first parse as, by the first parser of `table` whose word is
--- the first field, or the refusal of that parser; the refusal `BadText` if there is no field or no
--- such parser.
+-- The value or the refusal of the first parser of `table` whose word is the first field, on the
+-- fields after it; `BadText` if there is no field or no such parser.
 abbrev pub parse_by_first_field : {A : Type 0} → List (NamedParser A) → List Text → ReadResult A
 parse_by_first_field table [] = Err BadText
 parse_by_first_field table (kind ∷ fields) = read_with_parser (find (λ reader. bytes_eq reader.0 kind) table) fields

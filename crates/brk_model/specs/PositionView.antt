@@ -16,8 +16,7 @@ abbrev pub market_value_of_account_row : Tables → AccountRow → ℤ
 market_value_of_account_row tables a =
     total_by (λ row. row.qty *ℤ pos (last_price_in_tables tables row.symbol)) (filter (λ row. row.account == a.id) tables.summaries)
 
--- True if account `a` has a smaller market value than account `b`, or an equal one and a smaller
--- id.
+-- True if account `a` has a smaller market value than `b`, or an equal one and a smaller id.
 abbrev pub is_before_by_market_value : Tables → AccountRow → AccountRow → Bool
 is_before_by_market_value tables a b =
     int_lt (market_value_of_account_row tables a) (market_value_of_account_row tables b)
@@ -30,14 +29,12 @@ customer_position_view tables test =
     map (λ a. decimal a.id ∷ cents_text a.balance ∷ cents_text (market_value_of_account_row tables a) ∷ [])
     (sort_by (is_before_by_market_value tables) (filter (λ a. list_any (λ c. test c && (c.id == a.customer)) tables.customers) tables.accounts))
 
--- The 10 most recent TRADE rows of the account `account`, or all if it has fewer, sorted by stamp,
--- then by id, both descending.
+-- The 10 most recent TRADE rows of the account `account`, sorted by stamp, then id, descending.
 abbrev pub last_ten_trade_rows : Tables → ℕ → List TradeRow
 last_ten_trade_rows tables account = take 10 (trade_rows_recent_first (trade_rows_of_account tables account))
 
--- One record (`trade`, id, symbol, quantity) for each of the `last_ten_trade_rows` of the account
--- `account`, then one (`history`, trade, status name, stamp) for each TRADE_HISTORY row of these
--- trades. Both parts are sorted by stamp, then by trade id, both descending.
+-- A record (`trade`, id, symbol, quantity) for each of `last_ten_trade_rows`, then one (`history`,
+-- trade, status name, stamp) for each of their history rows, by stamp, then by id, descending.
 unfoldable pub recent_trades_view : Tables → ℕ → View
 recent_trades_view tables account =
     map (λ t. codes "trade" ∷ decimal t.id ∷ t.symbol ∷ decimal t.qty ∷ []) (last_ten_trade_rows tables account)

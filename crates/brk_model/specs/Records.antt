@@ -1,5 +1,4 @@
--- The records of a brokerage (reference data, trades, movements, stored replies), without the
--- values that are derived from them.
+-- The records of a brokerage, without derived values: reference data, trades, movements, replies.
 use Rattle.std.specs.Prelude.{ℕ, ℤ, Bool, List, Option}
 use Rattle.brk_money.specs.Spelling.{Text}
 use Rattle.brk_money.specs.declared.trade_type.TradeType.{TradeType}
@@ -11,8 +10,7 @@ pub record Broker : Type 0 where
   pub id : ℕ
   pub name : Text
 
--- A customer: the id, the tier, which selects the charges and commission rates, the tax id, and the
--- last and the first name.
+-- A customer: id, tier (selects charges and commission rates), tax id, last name and first name.
 pub record Customer : Type 0 where
   pub id : ℕ
   pub tier : ℕ
@@ -20,8 +18,7 @@ pub record Customer : Type 0 where
   pub last_name : Text
   pub first_name : Text
 
--- An account: its id, the ids of its customer (`customer`) and its broker (`broker`), its name, its
--- tax status, and its opening balance (`opening`), in cents.
+-- An account: its id, its customer and broker (ids), name, tax status, opening balance in cents.
 pub record Account : Type 0 where
   pub id : ℕ
   pub customer : ℕ
@@ -39,9 +36,8 @@ pub record Permission : Type 0 where
   pub last_name : Text
   pub first_name : Text
 
--- A security: its symbol, name, exchange and sector, the price of its last tick, in cents, the sum
--- of the quantities of its ticks (`volume`), in shares, and the stamp of its last tick (`moment`).
--- Before the first tick, the price and the stamp come from its listing, and the volume is 0.
+-- A security: symbol, name, exchange, sector, price in cents and stamp (`moment`) of its last tick,
+-- or of its listing before the first, and the sum of its ticks' quantities (`volume`), in shares.
 pub record Security : Type 0 where
   pub symbol : Text
   pub name : Text
@@ -57,9 +53,8 @@ pub record Charge : Type 0 where
   pub tier : ℕ
   pub amount : ℕ
 
--- A commission band: the commission rate of a customer tier, a trade type (`kind`) and an exchange
--- for quantities from `from_qty` to `to_qty` shares, both included. The rate is in hundredths of a
--- percent.
+-- A commission band: the rate, in hundredths of a percent, of a customer tier, a trade type
+-- (`kind`) and an exchange for quantities from `from_qty` to `to_qty` shares, both included.
 pub record Band : Type 0 where
   pub tier : ℕ
   pub kind : TradeType
@@ -84,16 +79,14 @@ pub record StatusChange : Type 0 where
   pub stamp : ℕ
   pub status : Status
 
--- A trade: the terms of its order, its status changes in sequence (`marks`), and the values that
--- its completion records. `kind` is its type, and `qty` its quantity in shares. `bid` is the
--- requested price or, for a market type, the last price of the security when the order was
--- accepted; `price` is the price at completion, none before it. `commission` is an estimate and
--- `tax` is 0 until the completion. Prices, charge, commission and tax are in cents. `executor` is
--- the name of the person who ordered, which a text update may have changed. The trade is a cash
--- trade if `is_cash` is true, otherwise a margin trade. It closes the last opened shares of its
--- position first if `is_lifo` is true, otherwise the first opened ones. `cash_type` is the cash
--- type of its settlement and `cash_name` the name of its cash row, each empty if the trade has
--- none.
+-- A trade: the terms of its order, its status changes in sequence (`marks`), and the values of its
+-- completion. `kind` is its type, `qty` its quantity in shares. `bid` is the requested price or,
+-- for a market type, the last price of the security at acceptance; `price` is the completion price,
+-- none before. `commission` is an estimate and `tax` is 0 until the completion. Prices, charge,
+-- commission and tax are in cents. `executor` is the name of the person who ordered, which a text
+-- update may change. The trade is a cash trade if `is_cash`, otherwise a margin trade, and closes
+-- the last opened shares of its position first if `is_lifo`, otherwise the first. `cash_type` is
+-- the cash type of its settlement, `cash_name` the name of its cash row; they may be empty.
 pub record Trade : Type 0 where
   pub id : ℕ
   pub account : ℕ
@@ -120,8 +113,7 @@ pub record Movement : Type 0 where
   pub amount : ℤ
   pub name : Text
 
--- The type of the first day of one-day settlement, in days since 1970-01-01, or none if no such day
--- is set.
+-- The first day of one-day settlement, in days since 1970-01-01, or none if it is not set.
 abbrev pub SettleRule : Type 0
 SettleRule = Option ℕ
 

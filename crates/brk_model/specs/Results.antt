@@ -15,14 +15,12 @@ use Rattle.brk_model.specs.Commands.{Completion}
 abbrev pub deal_of_result : ℕ → ℕ → Trade → Deal
 deal_of_result stamp price t = record { trade = t.id; side = side_of_trade_type t.kind; qty = t.qty; price = price; stamp = stamp; is_lifo = t.is_lifo }
 
--- The cash type of the settlement of the trade `t` at its completion (SE_CASH_TYPE): `Cash Account`
--- for a cash trade, otherwise `Margin`.
+-- The cash type (SE_CASH_TYPE) at completion: `Cash Account` for a cash trade, otherwise `Margin`.
 abbrev pub cash_type_at_completion : Trade → Text
 cash_type_at_completion t = if t.is_cash then codes "Cash Account" else codes "Margin"
 
--- The name of the cash row of a trade with the type `kind` and the quantity `qty` in a security
--- with the name `security`: the name of the type, a space, the quantity, the text `words`, and
--- `security`.
+-- The name of a cash row: the name of the trade type `kind`, a space, the quantity `qty`, the text
+-- `words`, and the name `security` of the security.
 abbrev pub cash_row_name_from_parts : Text → TradeType → ℕ → Text → Text
 cash_row_name_from_parts words kind qty security = trade_type_name kind ++ 32 ∷ decimal qty ++ words ++ security
 
@@ -36,9 +34,8 @@ cash_row_name words base t = cash_row_name_from_parts words t.kind t.qty (securi
 abbrev pub cash_row_name_at_completion : Base → Trade → Text
 cash_row_name_at_completion base t = if t.is_cash then cash_row_name (codes " shares of ") base t else []
 
--- The trade `t` after its completion at `price` cents a share: with this price, the commission and
--- the tax that follow from `base`, its cash type and cash row name at completion, and one more
--- status change, to `Completed` at `stamp`. The commission is 0 if no band applies.
+-- The trade `t` completed at `price` cents a share: with commission (0 without a band) and tax by
+-- `base`, cash type and cash row name at completion, and a status change to `Completed` at `stamp`.
 unfoldable pub trade_after_completion : Base → ℕ → ℕ → Trade → Trade
 trade_after_completion base stamp price t = trade_with_status_change stamp Completed (record t {
   price = Some price;
@@ -48,15 +45,13 @@ trade_after_completion base stamp price t = trade_with_status_change stamp Compl
   cash_name = cash_row_name_at_completion base t;
 })
 
--- The base `base` in which each trade with the id of `t` is completed at `price` cents a share with
--- the stamp `stamp` (`trade_after_completion`); all else is unchanged.
+-- The base in which each trade with the id of `t` is completed (`trade_after_completion`).
 abbrev pub base_after_result : Base → ℕ → ℕ → Trade → Base
 base_after_result base stamp price t = base_with_updated_trades (λ u. u.id == t.id) (trade_after_completion base stamp price) base
 
--- The figures of a completion: the commission and the tax of the completed trade `t`, the
--- settlement amount, the due day and the account's balance in the base `after` the completion, and
--- the buy value and the sell value of the shares that the deal `d` closes in the base `base` before
--- it.
+-- The figures of a completion: commission and tax of the completed trade `t`, its settlement
+-- amount, due day and account balance in the base `after` the completion, and the buy and sell
+-- value of the shares that the deal `d` closes in the base `base` before it.
 abbrev pub completion_between_bases : Base → Base → Deal → Trade → Completion
 completion_between_bases base after d t = record {
   commission = t.commission;

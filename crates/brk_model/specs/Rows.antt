@@ -18,14 +18,12 @@ nonnegative_cents_text n = cents_text (pos n)
 abbrev pub cash_or_margin_word : Bool → Text
 cash_or_margin_word is_cash = if is_cash then codes "cash" else codes "margin"
 
--- The word of an order or a trade: `lifo` if `is_lifo` is true (the last shares are closed first),
--- otherwise `fifo`.
+-- The word of an order or a trade: `lifo` (last shares first) if `is_lifo`, otherwise `fifo`.
 abbrev pub lifo_or_fifo_word : Bool → Text
 lifo_or_fifo_word is_lifo = if is_lifo then codes "lifo" else codes "fifo"
 
--- The ten fields of the order `o`: account, code of the type, symbol, quantity, price, `cash` or
--- `margin`, `lifo` or `fifo`, and the executor's first name, last name and tax id. The field of the
--- price is empty if the type has no price.
+-- The ten fields of the order `o`: account, code of the type, symbol, quantity, price (empty if
+-- none), `cash` or `margin`, `lifo` or `fifo`, and the executor's first name, last name and tax id.
 abbrev pub order_fields : Order → List Text
 order_fields o =
     decimal o.account ∷ trade_type_code (trade_type_of_order_type o.order_type) ∷ o.symbol ∷ decimal o.qty
@@ -64,15 +62,13 @@ row_fields (SetOneDay day) = codes "oneday" ∷ day_text day ∷ []
 abbrev pub row_text : Command → Text
 row_text command = join_with_byte 31 (row_fields command)
 
--- The seven fields of an estimate: price, buy value, sell value, tax, commission, charge and
--- assets.
+-- The seven fields of an estimate: price, buy value, sell value, tax, commission, charge, assets.
 abbrev pub estimate_fields : Estimate → List Text
 estimate_fields e =
     nonnegative_cents_text e.price ∷ nonnegative_cents_text e.buy_value ∷ nonnegative_cents_text e.sell_value ∷ nonnegative_cents_text e.tax
     ∷ nonnegative_cents_text e.commission ∷ nonnegative_cents_text e.charge ∷ cents_text e.assets ∷ []
 
--- The seven fields of a completion: commission, tax, amount, due day, buy value, sell value and
--- balance.
+-- The seven fields of a completion: commission, tax, amount, due day, buy and sell value, balance.
 abbrev pub completion_fields : Completion → List Text
 completion_fields c =
     nonnegative_cents_text c.commission ∷ nonnegative_cents_text c.tax ∷ cents_text c.amount ∷ day_text c.due_day

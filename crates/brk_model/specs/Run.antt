@@ -1,5 +1,4 @@
--- A run of calls: each has the outcome that the model specifies, or fails with a fault and does not
--- change the base.
+-- A run of calls: each has the specified outcome, or fails with a fault and the base is unchanged.
 use Rattle.std.specs.Prelude.{◌≡◌, ◌⊎◌, ℕ, List, [], ◌∷◌, Option, Result, Ok, Err}
 use Rattle.brk_money.specs.declared.refusal.Refusal.{Refusal}
 use Rattle.brk_money.specs.declared.fault.Fault.{Fault}
@@ -28,21 +27,18 @@ pub data Outcome : Type 0 where
 abbrev pub IsCallFault : Fault → Type 0
 IsCallFault fault = (fault ≡ Memory) ⊎ (fault ≡ Store)
 
--- The call is a command whose keyed step at the clock reading `now` on `base` results in `answer`
--- and the base `after`. It is false for a query.
+-- The call is a command whose keyed step at `now` on `base` results in `answer` and `after`.
 abbrev pub IsAnswerOfCommand : Base → ℕ → Call → Answer → Base → Type 0
 IsAnswerOfCommand base now (Do command key) answer after = keyed_step base now command key ≡ (answer, after)
 IsAnswerOfCommand base now (Ask query) answer after = ⊥
 
--- The call is a query whose view or refusal on `base` is `seen`, and `after` equals `base`. It is
--- false for a command.
+-- The call is a query whose view or refusal on `base` is `seen`, and `after` equals `base`.
 abbrev pub IsResultOfQuery : Base → Call → Result View Refusal → Base → Type 0
 IsResultOfQuery base (Ask query) seen after = (ask base query ≡ seen) × (after ≡ base)
 IsResultOfQuery base (Do command key) seen after = ⊥
 
--- The call at the clock reading `now` on `base` may have the outcome, and the base after it may
--- then be `after`. A fault, `Memory` or `Store`, is always possible, and `after` then equals
--- `base`.
+-- The call at the clock reading `now` on `base` may have the outcome and result in the base
+-- `after`. A fault, `Memory` or `Store`, is always possible, and `after` then equals `base`.
 abbrev pub IsOutcomeOfCall : Base → ℕ → Call → Outcome → Base → Type 0
 IsOutcomeOfCall base now call (Did answer) after = IsAnswerOfCommand base now call answer after
 IsOutcomeOfCall base now call (Saw view) after = IsResultOfQuery base call (Ok view) after
@@ -50,8 +46,7 @@ IsOutcomeOfCall base now call (NoView refusal) after = IsResultOfQuery base call
 IsOutcomeOfCall base now call (Failed fault) after = IsCallFault fault × (after ≡ base)
 
 -- The calls, each with its clock reading and executed in sequence from `base` on, may have these
--- outcomes, one each, and the base after the last may then be `after`; without calls, `after` is
--- equal to `base`. It is false if the lists have different lengths.
+-- outcomes, one each, and result in the base `after`, which equals `base` without calls.
 abbrev pub Run : Base → List (ℕ × Call) → List Outcome → Base → Type 0
 Run base [] [] after = after ≡ base
 Run base (call ∷ calls) (outcome ∷ outcomes) after = (mid : Base) × IsOutcomeOfCall base call.0 call.1 outcome mid × Run mid calls outcomes after

@@ -3,8 +3,7 @@
 use Rattle.std.specs.Prelude.{ℕ, Bool, true, false}
 use Rattle.brk_model.specs.Limits.{greatest_qty, greatest_summary_quantity}
 
--- A schema of a database: its number, whether it has the tables CASH_MOVE and SETTLE_RULE, and the
--- limits of its quantities.
+-- A schema: its number, whether it has the tables CASH_MOVE and SETTLE_RULE, and its limits.
 pub record Schema : Type 0 where
   -- The number that DESK contains (D_SCHEMA).
   pub number : ℕ
@@ -24,15 +23,12 @@ pub record Schema : Type 0 where
 abbrev pub first_schema : Schema
 first_schema = record { number = 1; has_cash_move_table = false; has_settle_rule_table = false; greatest_qty = 999999; greatest_summary_quantity = 999999999 }
 
--- The second schema: cash rows of trades and of movements, no first day of one-day settlement,
--- quantities of at most 999,999 shares, and summaries of an absolute value of at most 999,999,999
--- shares.
+-- The second schema: the first one with cash rows of movements too.
 abbrev pub second_schema : Schema
 second_schema = record { number = 2; has_cash_move_table = true; has_settle_rule_table = false; greatest_qty = 999999; greatest_summary_quantity = 999999999 }
 
 -- The third schema: cash rows of trades and of movements, the first day of one-day settlement,
--- quantities of at most 9,999,999 shares, and summaries of an absolute value of at most
--- 9,999,999,999 shares.
+-- quantities of at most 9,999,999 and summaries of at most 9,999,999,999 shares in absolute value.
 abbrev pub third_schema : Schema
 third_schema = record {
   number = 3;

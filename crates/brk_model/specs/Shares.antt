@@ -15,9 +15,8 @@ pub record Share : Type 0 where
   pub price : ℕ
   pub stamp : ℕ
 
--- The effect of the trade with the id `trade` on a position: at `stamp` it buys or sells, by
--- `side`, `qty` shares at `price` cents each. The shares of the position that it closes, if any,
--- are the last ones if `is_lifo` is true, otherwise the first ones.
+-- The effect of the trade `trade`: at `stamp` it buys or sells (`side`) `qty` shares at `price`
+-- cents each, and closes shares of its position, the last first if `is_lifo`, otherwise the first.
 pub record Deal : Type 0 where
   pub trade : ℕ
   pub side : Side
@@ -26,15 +25,13 @@ pub record Deal : Type 0 where
   pub stamp : ℕ
   pub is_lifo : Bool
 
--- True if the side of the first share of the position `shares` differs from the side of the deal
--- `d`; false if the position is empty.
+-- True if the first share of the position exists and has another side than the deal `d`.
 abbrev pub is_opposite_to_position : Deal → List Share → Bool
 is_opposite_to_position d [] = false
 is_opposite_to_position d (share ∷ shares) = not (is_same_side share.side d.side)
 
--- The number of shares of the position `shares` that the deal `d` closes: the smaller of the deal's
--- quantity and the number of shares of the position if `is_opposite_to_position` is true, otherwise
--- 0.
+-- The number of shares that the deal `d` closes: the smaller of its quantity and the number of
+-- `shares` if `is_opposite_to_position` is true, otherwise 0.
 abbrev pub closed_share_count_of_deal : Deal → List Share → ℕ
 closed_share_count_of_deal d shares = if is_opposite_to_position d shares then min d.qty (length shares) else 0
 
@@ -53,13 +50,11 @@ remaining_shares d shares =
 abbrev pub opened_share : Deal → Share
 opened_share d = record { side = d.side; trade = d.trade; price = d.price; stamp = d.stamp }
 
--- The shares that the deal `d` opens, all equal: their number is the deal's quantity less the
--- number of shares of the position `shares` that the deal closes.
+-- The equal shares that the deal `d` opens, as many as its quantity less the shares that it closes.
 abbrev pub opened_shares : Deal → List Share → List Share
 opened_shares d shares = replicate (d.qty - closed_share_count_of_deal d shares) (opened_share d)
 
--- The position after the deal `d`: the shares of `shares` that it does not close, followed by those
--- that it opens.
+-- The position after the deal `d`: the shares that it does not close, then those that it opens.
 unfoldable pub shares_after_deal : List Share → Deal → List Share
 shares_after_deal shares d = remaining_shares d shares ++ opened_shares d shares
 
@@ -67,42 +62,35 @@ shares_after_deal shares d = remaining_shares d shares ++ opened_shares d shares
 abbrev pub replay : List Deal → List Share
 replay deals = fold shares_after_deal [] deals
 
--- The sum, in cents, of the opening prices of the shares of the position `shares` that the deal `d`
--- closes.
+-- The sum, in cents, of the opening prices of the shares that the deal `d` closes.
 abbrev pub closed_value_at_opening_prices : Deal → List Share → ℕ
 closed_value_at_opening_prices d shares = sum_by (λ share. share.price) (closed_shares d shares)
 
--- The number of shares of the position `shares` that the deal `d` closes, times the deal's price,
--- in cents.
+-- The number of shares that the deal `d` closes, times its price, in cents.
 abbrev pub closed_value_at_deal_price : Deal → List Share → ℕ
 closed_value_at_deal_price d shares = closed_share_count_of_deal d shares * d.price
 
--- The buy value, in cents, of the shares of the position `shares` that the deal `d` closes
--- (buy_value of Trade-Order and Trade-Result): their value at opening prices if the given side is
--- `Sell`, and at the deal's price if it is `Buy`.
+-- The buy value, in cents, of the shares that the deal `d` closes (buy_value of Trade-Order and
+-- Trade-Result): at opening prices for the side `Sell`, at the deal's price for `Buy`.
 abbrev pub buy_value_for_side : Side → Deal → List Share → ℕ
 buy_value_for_side Sell d shares = closed_value_at_opening_prices d shares
 buy_value_for_side Buy d shares = closed_value_at_deal_price d shares
 
--- The buy value, in cents, of the shares of the position `shares` that the deal `d` closes: their
--- value at opening prices if the deal sells, and at the deal's price if it buys.
+-- The buy value, in cents, of the shares that the deal `d` closes, by its own side.
 unfoldable pub buy_value : Deal → List Share → ℕ
 buy_value d shares = buy_value_for_side d.side d shares
 
--- The sell value, in cents, of the shares of the position `shares` that the deal `d` closes
--- (sell_value of Trade-Order and Trade-Result): their value at the deal's price if the given side
--- is `Sell`, and at opening prices if it is `Buy`.
+-- The sell value, in cents, of the shares that the deal `d` closes (sell_value of Trade-Order and
+-- Trade-Result): at the deal's price for the side `Sell`, at opening prices for `Buy`.
 abbrev pub sell_value_for_side : Side → Deal → List Share → ℕ
 sell_value_for_side Sell d shares = closed_value_at_deal_price d shares
 sell_value_for_side Buy d shares = closed_value_at_opening_prices d shares
 
--- The sell value, in cents, of the shares of the position `shares` that the deal `d` closes: their
--- value at the deal's price if the deal sells, and at opening prices if it buys.
+-- The sell value, in cents, of the shares that the deal `d` closes, by its own side.
 unfoldable pub sell_value : Deal → List Share → ℕ
 sell_value d shares = sell_value_for_side d.side d shares
 
--- The realised gain on the shares of the position `shares` that the deal `d` closes, in cents: sell
--- value less buy value, below 0 for a loss.
+-- The realised gain, in cents, on the shares that the deal `d` closes: sell value less buy value.
 abbrev pub realised_gain : Deal → List Share → ℤ
 realised_gain d shares = pos (sell_value d shares) -ℤ pos (buy_value d shares)
 
@@ -115,44 +103,37 @@ abbrev pub signed_by_side : Side → ℕ → ℤ
 signed_by_side Buy n = pos n
 signed_by_side Sell n = neg_ℤ (pos n)
 
--- The number of bought shares of the list `shares` less the number of its shares that were sold
--- short.
+-- The number of bought shares of the list `shares` less the number of those sold short.
 abbrev pub net_share_count : List Share → ℤ
 net_share_count shares = total_by (λ share. signed_by_side share.side 1) shares
 
--- The net number (`net_share_count`) of the shares in the list `shares` that the trade with the id
--- `trade` opened; below 0 if they were sold short, and 0 if there are none.
+-- The `net_share_count` of the shares that the trade `trade` opened: below 0 if sold short.
 abbrev pub lot_quantity : List Share → ℕ → ℤ
 lot_quantity shares trade = net_share_count (shares_opened_by_trade trade shares)
 
--- For each trade that opened shares of the list `shares`, the first of these shares, in the
--- sequence of the list.
+-- The first share of each trade that opened shares of the list `shares`, in sequence.
 abbrev pub first_shares_of_lots : List Share → List Share
 first_shares_of_lots [] = []
 first_shares_of_lots (share ∷ shares) = share ∷ filter (λ other. not (other.trade == share.trade)) (first_shares_of_lots shares)
 
--- A lot: the shares of a position that one trade opened and that are not closed. `trade` is the id
--- of that trade, `price` its price in cents, and `stamp` its stamp; `qty` is the number of the
--- shares, negated if they were sold short.
+-- A lot: the shares of a position that one trade opened and that are not closed. `trade`, `price`
+-- and `stamp` are its id, price in cents and stamp; `qty` counts the shares, below 0 if sold short.
 pub record Lot : Type 0 where
   pub trade : ℕ
   pub price : ℕ
   pub stamp : ℕ
   pub qty : ℤ
 
--- The lot of the position `shares` to which the share `share` belongs: the trade, the price and the
--- stamp of the share, and the net quantity of the shares that this trade opened.
+-- The lot of the share `share` in the position `shares`, with the net quantity of its trade.
 abbrev pub lot_of_share : List Share → Share → Lot
 lot_of_share shares share = record { trade = share.trade; price = share.price; stamp = share.stamp; qty = lot_quantity shares share.trade }
 
--- The lots of the position `shares`, one for each trade that opened some of its shares, in the
--- sequence of their first shares.
+-- The lots of the position `shares`, in the sequence of their first shares.
 unfoldable pub lots_of_shares : List Share → List Lot
 lots_of_shares shares = map (lot_of_share shares) (first_shares_of_lots shares)
 
--- The effect of a deal on a lot: the id of the trade that opened the lot (`lot`), and the lot's
--- quantity before and after the deal, in shares: below 0 if they were sold short, and 0 if the lot
--- is not open then.
+-- The effect of a deal on a lot: the id of the trade that opened the lot (`lot`), and its quantity
+-- in shares before and after the deal, below 0 if sold short, and 0 if it is not open.
 pub record Touch : Type 0 where
   pub lot : ℕ
   pub before : ℤ
@@ -163,13 +144,11 @@ pub record Touch : Type 0 where
 abbrev pub touch_of_lot : ℕ → Deal → List Share → Touch
 touch_of_lot trade d shares = record { lot = trade; before = lot_quantity shares trade; after = lot_quantity (shares_after_deal shares d) trade }
 
--- The effect of the deal `d` on the lot to which the share `share` belongs (`touch_of_lot`): the
--- lot's quantity in the position `shares` before the deal, and in the position after it.
+-- The effect of the deal `d` on the lot of the share `share` (`touch_of_lot`).
 abbrev pub touch_of_lot_with_share : Deal → List Share → Share → Touch
 touch_of_lot_with_share d shares share = touch_of_lot share.trade d shares
 
--- True if the quantities before and after the deal differ in `touch`, the effect of a deal on a
--- lot.
+-- True if the quantities before and after the deal differ in `touch`.
 abbrev pub changes_lot_quantity : Touch → Bool
 changes_lot_quantity touch = not (is_zero (touch.before -ℤ touch.after))
 
@@ -179,8 +158,7 @@ unfoldable pub touches_of_existing_lots : Deal → List Share → List Touch
 touches_of_existing_lots d shares = filter changes_lot_quantity (map (touch_of_lot_with_share d shares) (first_shares_of_lots shares))
 
 -- The effects of the deal `d` on the lots whose quantities it changes (HOLDING_HISTORY): on lots of
--- the position `shares`, in the sequence of their first shares, and then on the lot that the deal
--- opens, if any.
+-- `shares`, in the sequence of their first shares, and then on the lot that it opens, if any.
 unfoldable pub lot_touches_of_deal : Deal → List Share → List Touch
 lot_touches_of_deal d shares =
     filter changes_lot_quantity (map (touch_of_lot_with_share d shares) (first_shares_of_lots (shares ++ shares_after_deal shares d)))

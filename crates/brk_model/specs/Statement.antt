@@ -21,8 +21,8 @@ left_aligned_text places text = text ++ replicate (places - length text) 32
 abbrev pub right_aligned_text : ℕ → Text → Text
 right_aligned_text places text = replicate (places - length text) 32 ++ text
 
--- The statement line of an amount, which is given in cents: the word `word`, padded on its right to
--- 10 bytes, a space, and the text of the amount, padded on its left to 22 bytes.
+-- The statement line of an amount in cents: `word`, padded on its right to 10 bytes, a space, and
+-- the text of the amount, padded on its left to 22 bytes.
 abbrev pub amount_line : Text → ℤ → Text
 amount_line word amount = left_aligned_text 10 word ++ 32 ∷ right_aligned_text 22 (cents_text amount)
 
@@ -30,13 +30,11 @@ amount_line word amount = left_aligned_text 10 word ++ 32 ∷ right_aligned_text
 abbrev pub sorted_cash_rows_of_account : Tables → ℕ → List CashRow
 sorted_cash_rows_of_account tables account = sort_by_key (λ row. row.stamp) (cash_move_rows_of_account tables account)
 
--- The CASH_MOVE rows of the list whose stamps are before the UTC day `from`, which is in days since
--- 1970-01-01.
+-- The CASH_MOVE rows with stamps before the UTC day `from`, in days since 1970-01-01.
 abbrev pub cash_move_rows_before_day : ℕ → List CashRow → List CashRow
 cash_move_rows_before_day from rows = filter (λ row. nat_lt (day_of row.stamp) from) rows
 
--- The CASH_MOVE rows of the list whose stamps are on the UTC days `from` to `to`, both included,
--- which are in days since 1970-01-01.
+-- The CASH_MOVE rows with stamps on the UTC days `from` to `to`, both included.
 abbrev pub cash_move_rows_within_days : ℕ → ℕ → List CashRow → List CashRow
 cash_move_rows_within_days from to rows = filter (λ row. is_in_range from to (day_of row.stamp)) rows
 
@@ -44,32 +42,28 @@ cash_move_rows_within_days from to rows = filter (λ row. is_in_range from to (d
 abbrev pub cash_row_total : List CashRow → ℤ
 cash_row_total rows = total_by (λ row. row.amount) rows
 
--- The HOLDING rows of the account `account`, sorted by symbol, then by stamp, both ascending; the
--- sort is stable.
+-- The HOLDING rows of the account, stably sorted by symbol, then by stamp, both ascending.
 abbrev pub holding_rows_of_account : Tables → ℕ → List HoldingRow
 holding_rows_of_account tables account =
     sort_by (λ a b. is_text_less a.symbol b.symbol || (bytes_eq a.symbol b.symbol && nat_lt a.stamp b.stamp))
     (filter (λ row. row.account == account) tables.holdings)
 
--- The statement line of a cash row: the UTC day of its stamp, its amount, padded on its left to 22
--- bytes, and its name, separated by spaces.
+-- The line of a cash row: UTC day, amount, padded on its left to 22 bytes, name, joined by spaces.
 abbrev pub cash_row_line : CashRow → Text
 cash_row_line row = day_text (day_of row.stamp) ++ 32 ∷ right_aligned_text 22 (cents_text row.amount) ++ 32 ∷ row.name
 
--- The statement line of a lot: its symbol, padded on its right to 15 bytes, and the id of the trade
--- that opened it, its quantity and its price, padded on their left to 13, 11 and 10 bytes,
--- separated by spaces.
+-- The line of a lot: symbol, padded on its right to 15 bytes, and id of the opening trade, quantity
+-- and price, padded on their left to 13, 11 and 10 bytes, separated by spaces.
 abbrev pub lot_line : HoldingRow → Text
 lot_line row =
     left_aligned_text 15 row.symbol ++ 32 ∷ right_aligned_text 13 (decimal row.trade) ++ 32 ∷ right_aligned_text 11 (signed_decimal row.qty) ++ 32
     ∷ right_aligned_text 10 (nonnegative_cents_text row.price)
 
--- The lines of the statement of account `a` over the UTC days `from` to `to`, both included: title,
--- name, period, balance before the period, cash rows of the period, balance after the period, lots,
--- market value, and the counts of the cash rows of the period and of the lots. `rows` are all cash
--- rows of the account; both balances are its opening balance plus the amounts of the `rows` before
--- the period, the second one also plus those of the period. The lots and the market value are read
--- from `tables`, whatever the period. Days are counted from 1970-01-01.
+-- The lines of the statement of account `a` over the UTC days `from` to `to`, both included and
+-- counted from 1970-01-01: title, name, period, balance before the period, cash rows of the period,
+-- balance after it, lots, market value, and the counts of its cash rows and of the lots. Balances
+-- are the opening balance plus the amounts of the account's cash `rows` until then; lots and market
+-- value are read from `tables`, whatever the period.
 abbrev pub statement_lines : Tables → AccountRow → ℕ → ℕ → List CashRow → List Text
 statement_lines tables a from to rows =
     (codes "Statement of account " ++ decimal a.id)
@@ -89,14 +83,12 @@ statement_lines tables a from to rows =
 abbrev pub text_of_lines : List Text → Text
 text_of_lines lines = flat_map (λ line. line ++ 10 ∷ []) lines
 
--- The statement of the account over the UTC days `from` to `to`, both included, or the refusal
--- `NoAccount` if there is no account. Days are counted from 1970-01-01.
+-- The statement of the account over the UTC days `from` to `to`, or `NoAccount` without an account.
 abbrev pub statement_or_refusal : Tables → Option AccountRow → ℕ → ℕ → Result Text Refusal
 statement_or_refusal tables None from to = Err NoAccount
 statement_or_refusal tables (Some a) from to = Ok (text_of_lines (statement_lines tables a from to (sorted_cash_rows_of_account tables a.id)))
 
--- The statement of the account with the id `account` over the UTC days `from` to `to`, both
--- included, which are counted from 1970-01-01. It is refused with `BadText` if `to` is before
--- `from`, otherwise with `NoAccount` if the account does not exist.
+-- The statement of the account `account` over the UTC days `from` to `to`, both included; refused
+-- with `BadText` if `to` is before `from`, otherwise with `NoAccount` if there is no account.
 unfoldable pub statement : Tables → ℕ → ℕ → ℕ → Result Text Refusal
 statement tables account from to = if nat_lt to from then Err BadText else statement_or_refusal tables (account_row_with_id tables account) from to

@@ -15,16 +15,14 @@ use Rattle.brk_model.specs.Joins.{security_row_with_symbol, trade_rows_of_accoun
 abbrev pub broker_name_with_id : Tables → ℕ → Text
 broker_name_with_id tables id = option_map_or (λ row. row.name) (find (λ row. row.id == id) tables.brokers) []
 
--- One record for each CUSTOMER row with the id of the customer of the account `a`, none if there is
--- no such row: the customer's last and first name, and the name of the broker of the account, which
--- is empty if the broker does not exist.
+-- One record for each CUSTOMER row with the id of the customer of the account `a`: last name, first
+-- name, and the name of the account's broker, which is empty if the broker does not exist.
 abbrev pub customer_and_broker_names : Tables → AccountRow → View
 customer_and_broker_names tables a =
     map (λ c. c.last_name ∷ c.first_name ∷ broker_name_with_id tables a.broker ∷ []) (filter (λ c. c.id == a.customer) tables.customers)
 
--- The record of a trade in the view `status`, with 10 fields: id, stamp, status name, type name,
--- symbol, quantity, executor, charge, and the name and the exchange of its security, which are
--- empty if the security does not exist.
+-- The record of a trade in the view `status`: id, stamp, status name, type name, symbol, quantity,
+-- executor, charge, and the name and the exchange of its security, empty if it does not exist.
 abbrev pub record_of_trade_status : Tables → TradeRow → List Text
 record_of_trade_status tables t =
     decimal t.id ∷ decimal t.stamp ∷ trade_status_name t.status ∷ trade_type_name t.kind ∷ t.symbol ∷ decimal t.qty ∷ t.executor
@@ -32,16 +30,14 @@ record_of_trade_status tables t =
     ∷ option_map_or (λ s. s.name) (security_row_with_symbol tables t.symbol) [] ∷ option_map_or (λ s. s.exchange) (security_row_with_symbol tables t.symbol) []
     ∷ []
 
--- One record with the names of the customer and the broker of the account `account`, left out if
--- the account or its customer does not exist; then one for each of the account's 50 most recent
--- trades, sorted by stamp, then by id, both descending.
+-- One record with the names of the customer and the broker of the account, if it and its customer
+-- exist, then one for each of its 50 most recent trades, by stamp, then by id, both descending.
 unfoldable pub trade_status_view : Tables → ℕ → View
 trade_status_view tables account =
     flat_map (customer_and_broker_names tables) (filter (λ a. a.id == account) tables.accounts)
     ++ map (record_of_trade_status tables) (take 50 (trade_rows_recent_first (trade_rows_of_account tables account)))
 
--- One record (id, type code, symbol, quantity, bid) for each submitted trade, sorted by id,
--- ascending.
+-- One record (id, type code, symbol, quantity, bid) for each submitted trade, by id, ascending.
 unfoldable pub submitted_trades_view : Tables → View
 submitted_trades_view tables =
     map (λ t. decimal t.id ∷ trade_type_code t.kind ∷ t.symbol ∷ decimal t.qty ∷ nonnegative_cents_text t.bid ∷ [])

@@ -16,19 +16,16 @@ use Rattle.brk_model.specs.Commands.{Command, Listing, Reply, Booked, Ticked, Ca
 use Rattle.brk_model.specs.Commands.{AddPermission, AddSecurity, AddCharge, AddBand, AddTaxRate, AddCustomerTax, PlaceOrder, FeedTicks, CancelTrade}
 use Rattle.brk_model.specs.Commands.{CompleteTrade, ChangeExecutors, ChangeCashTypes, ChangeCashNames, DepositCash, WithdrawCash, SetOneDay}
 
--- The security of the listing `l`, with its first price as the last price, the volume 0 and the
--- stamp `stamp`.
+-- The security of the listing `l`, with its first price as last price, volume 0 and stamp `stamp`.
 abbrev pub security_of_listing : ℕ → Listing → Security
 security_of_listing stamp l =
     record { symbol = l.symbol; name = l.name; exchange = l.exchange; sector = l.sector; last_price = l.price; volume = 0; moment = stamp }
 
--- The base `base` in which each trade with the id `id` is completed at `price` cents a share with
--- the stamp `stamp`; unchanged if there is no such trade.
+-- The base with the trade of the id `id` completed at `price` and `stamp`; unchanged without it.
 abbrev pub base_after_result_by_id : Base → ℕ → ℕ → ℕ → Base
 base_after_result_by_id base stamp id price = option_map_or (base_after_result base stamp price) (trade_with_id base id) base
 
--- The base after a command that is accepted at `stamp` on `base`, still with the last stamp of
--- `base`.
+-- The base after a command that is accepted at `stamp`, still with the last stamp of `base`.
 unfoldable pub base_after_command_unstamped : Base → ℕ → Command → Base
 base_after_command_unstamped base stamp (AddBroker b) = record base { brokers = base.brokers ++ b ∷ [] }
 base_after_command_unstamped base stamp (AddCustomer c) = record base { customers = base.customers ++ c ∷ [] }
@@ -76,8 +73,7 @@ reply_to_command base stamp (DepositCash account amount) = reply_to_movement bas
 reply_to_command base stamp (WithdrawCash account amount) = reply_to_movement base (withdrawal_movement stamp account amount)
 reply_to_command base stamp (SetOneDay day) = Booked stamp
 
--- The base after the command that is accepted at `stamp` on `base`; the last stamp of the new base
--- is `stamp`.
+-- The base after the command that is accepted at `stamp` on `base`; its last stamp is `stamp`.
 abbrev pub base_after_accepted_command : Base → ℕ → Command → Base
 base_after_accepted_command base stamp command = record (base_after_command_unstamped base stamp command) { last = Some stamp }
 

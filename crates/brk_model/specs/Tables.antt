@@ -48,12 +48,10 @@ pub record LastTradeRow : Type 0 where
   pub price : ℕ
   pub volume : ℕ
 
--- A row of TRADE, with the columns, in the sequence of the fields, T_ID, T_DTS, T_ST_ID, T_TT_ID,
--- T_IS_CASH, T_S_SYMB, T_QTY, T_BID_PRICE, T_CA_ID, T_EXEC_NAME, T_TRADE_PRICE, T_CHRG, T_COMM,
--- T_TAX and T_LIFO. `status` is the last status of the trade, and `stamp` the stamp of its last
--- status change. The quantity is in shares; the bid, the price, the charge, the commission and the
--- tax are in cents. There is no price before the completion. The trade closes the last shares of
--- its position first if `is_lifo` is true, otherwise the first ones.
+-- A row of TRADE: T_ID, T_DTS, T_ST_ID, T_TT_ID, T_IS_CASH, T_S_SYMB, T_QTY, T_BID_PRICE, T_CA_ID,
+-- T_EXEC_NAME, T_TRADE_PRICE, T_CHRG, T_COMM, T_TAX and T_LIFO, in field order. `status` and
+-- `stamp` are of the last status change; amounts are in cents; there is no price before completion.
+-- The trade closes the last shares of its position first if `is_lifo`, otherwise the first.
 pub record TradeRow : Type 0 where
   pub id : ℕ
   pub stamp : ℕ
@@ -71,8 +69,7 @@ pub record TradeRow : Type 0 where
   pub tax : ℕ
   pub is_lifo : Bool
 
--- A row of TRADE_HISTORY, a status change: trade (TH_T_ID), new status (TH_ST_ID) and stamp
--- (TH_DTS).
+-- A row of TRADE_HISTORY: trade (TH_T_ID), new status (TH_ST_ID) and stamp (TH_DTS).
 pub record HistoryRow : Type 0 where
   pub trade : ℕ
   pub status : Status
@@ -88,9 +85,8 @@ pub record RequestRow : Type 0 where
   pub bid : ℕ
   pub broker : ℕ
 
--- A row of HOLDING, a lot: the trade that opened it (H_T_ID), account (H_CA_ID), symbol (H_S_SYMB),
--- that trade's completion stamp (H_DTS) and price of a share in cents (H_PRICE), and the lot's
--- quantity in shares, below 0 if they were sold short (H_QTY).
+-- A row of HOLDING, a lot: opening trade (H_T_ID), account (H_CA_ID), symbol (H_S_SYMB), stamp
+-- (H_DTS) and price in cents (H_PRICE) of that trade, and shares, below 0 if sold short (H_QTY).
 pub record HoldingRow : Type 0 where
   pub trade : ℕ
   pub account : ℕ
@@ -99,16 +95,14 @@ pub record HoldingRow : Type 0 where
   pub price : ℕ
   pub qty : ℤ
 
--- A row of HOLDING_SUMMARY: account (HS_CA_ID), symbol (HS_S_SYMB), and net quantity in shares,
--- below 0 if they were sold short (HS_QTY).
+-- A row of HOLDING_SUMMARY: account (HS_CA_ID), symbol (HS_S_SYMB), and net shares (HS_QTY).
 pub record SummaryRow : Type 0 where
   pub account : ℕ
   pub symbol : Text
   pub qty : ℤ
 
--- A row of HOLDING_HISTORY, a change of a lot: the trade that opened the lot (HH_H_T_ID), the trade
--- that changed it (HH_T_ID), and the lot's quantity before and after, in shares, below 0 if they
--- were sold short (HH_BEFORE_QTY, HH_AFTER_QTY).
+-- A row of HOLDING_HISTORY, a change of a lot: opening trade (HH_H_T_ID), changing trade (HH_T_ID),
+-- and shares before and after, below 0 if sold short (HH_BEFORE_QTY, HH_AFTER_QTY).
 pub record HoldingHistoryRow : Type 0 where
   pub lot : ℕ
   pub trade : ℕ
@@ -131,9 +125,8 @@ pub record OldCashRow : Type 0 where
   pub amount : ℤ
   pub name : Text
 
--- A row of CASH_MOVE, a cash row: number (CM_ID), account (CM_CA_ID), trade, or none for a movement
--- (CM_T_ID), stamp (CM_DTS), amount in cents, below 0 if it reduces the balance (CM_AMT), and name
--- (CM_NAME).
+-- A row of CASH_MOVE: number (CM_ID), account (CM_CA_ID), trade, or none for a movement (CM_T_ID),
+-- stamp (CM_DTS), amount in cents, below 0 if it reduces the balance (CM_AMT), and name (CM_NAME).
 pub record CashRow : Type 0 where
   pub id : ℕ
   pub account : ℕ
@@ -142,11 +135,10 @@ pub record CashRow : Type 0 where
   pub amount : ℤ
   pub name : Text
 
--- The rows of all tables. `last` is D_LAST of DESK, the stamp of the last accepted command, or none
--- if there is none; the other columns of DESK are left out. `rule` is SR_DAY of the row of
--- SETTLE_RULE, the first day of one-day settlement, or none without a row.
--- Cash rows are in CASH_TRANSACTION (`cash`) in the first schema, and in CASH_MOVE (`moves`) in the
--- second and the third.
+-- The rows of all tables. `last` is D_LAST of DESK, the stamp of the last accepted command, if any;
+-- its other columns are left out. `rule` is SR_DAY of SETTLE_RULE, the first day of one-day
+-- settlement, if any. Cash rows are in CASH_TRANSACTION (`cash`) in the first schema, in CASH_MOVE
+-- (`moves`) in the others.
 pub record Tables : Type 0 where
   pub last : Option ℕ
   pub kept : List Kept
@@ -171,16 +163,13 @@ pub record Tables : Type 0 where
   pub moves : List CashRow
   pub rule : SettleRule
 
--- The BROKER row of the broker `b`: its id and name, and the number and the commission total of the
--- completed trades in `done` whose accounts, in the list `accounts`, have this broker; an account
--- that is not in this list counts as one with the broker 0.
+-- The BROKER row of the broker `b`: id, name, and the number and the commission total of its trades
+-- in `done` (`trades_of_broker`).
 abbrev pub broker_row : List Account → List Trade → Broker → BrokerRow
 broker_row accounts done b =
     record { id = b.id; name = b.name; trades = pos (trade_count_of_broker accounts done b.id); commissions = commission_total_of_broker accounts done b.id }
 
--- The CUSTOMER_ACCOUNT row of the account `a`. Its balance is the opening balance of the account
--- with this id in `accounts`, 0 if this list has none, plus the amounts of the postings to this id
--- in `posted`; the other fields equal those in `a`.
+-- The CUSTOMER_ACCOUNT row of the account `a`, with its `balance_of_account` after `posted`.
 abbrev pub account_row : List Account → List Posting → Account → AccountRow
 account_row accounts posted a = record {
   id = a.id;
@@ -204,8 +193,7 @@ last_trade_row s = record { symbol = s.symbol; stamp = s.moment; price = s.last_
 abbrev pub last_status_of_trade : Trade → Status
 last_status_of_trade t = option_map_or (λ m. m.status) (last_status_change t) Canceled
 
--- The TRADE row of the trade `t`, with its last status and the stamp of that status, or `Canceled`
--- and 0 if it has no status change.
+-- The TRADE row of the trade `t`, with its last status and stamp; `Canceled` and 0 if it has none.
 abbrev pub trade_row : Trade → TradeRow
 trade_row t =
     record {
@@ -226,24 +214,20 @@ trade_row t =
       is_lifo = t.is_lifo;
     }
 
--- The TRADE_HISTORY rows of the trade `t`, one for each status change, in the sequence of the
--- changes.
+-- The TRADE_HISTORY rows of the trade `t`, one for each status change, in sequence.
 abbrev pub history_rows : Trade → List HistoryRow
 history_rows t = map (λ m. record { trade = t.id; status = m.status; stamp = m.stamp }) t.marks
 
--- The TRADE_REQUEST row of the pending trade `t`, with the broker of its account in `accounts`, or
--- 0 if this list has no such account.
+-- The TRADE_REQUEST row of the pending trade `t`, with the broker of its account, or 0.
 abbrev pub request_row : List Account → Trade → RequestRow
 request_row accounts t = record { trade = t.id; kind = t.kind; symbol = t.symbol; qty = t.qty; bid = t.bid; broker = broker_id_in_accounts accounts t.account }
 
--- The rows that `rows` returns for each account id and each symbol of `base`, in the sequence of
--- the accounts, and for one account in the sequence of the securities.
+-- The rows of `rows` for each account id and, within it, each symbol of `base`, in sequence.
 abbrev pub rows_by_position : {Row : Type 0} → Base → (ℕ → Text → List Row) → List Row
 rows_by_position base rows = flat_map (λ a. flat_map (λ s. rows a.id s.symbol) base.securities) base.accounts
 
--- The HOLDING row of the lot that the completed trade `t` opened; its quantity is 0 if `t` opened
--- no share, or if no share of the lot is left after the completed trades `done`. The price is 0 if
--- `t` has no completion price.
+-- The HOLDING row of the lot that the completed trade `t` opened; the quantity is 0 if no share of
+-- it is left after the completed trades `done`, and the price 0 without a completion price.
 abbrev pub holding_row : List Trade → Trade → HoldingRow
 holding_row done t = record {
   trade = t.id;
@@ -258,22 +242,19 @@ holding_row done t = record {
 abbrev pub holding_history_row : ℕ → Touch → HoldingHistoryRow
 holding_history_row trade touch = record { lot = touch.lot; trade = trade; before = touch.before; after = touch.after }
 
--- The HOLDING_HISTORY rows `rows` with the row of `touch`, the effect of the trade with the id
--- `trade` on a lot, in front; `rows` unchanged if `touch` does not change the lot's quantity.
+-- `rows` with the row of `touch`, by the trade `trade`, in front if it changes the lot's quantity.
 abbrev pub rows_with_lot_touch : ℕ → Touch → List HoldingHistoryRow → List HoldingHistoryRow
 rows_with_lot_touch trade touch rows = if changes_lot_quantity touch then holding_history_row trade touch ∷ rows else rows
 
--- The HOLDING_HISTORY rows of the lot that the trade with the id `lot` opened: one for each deal
--- that changes the lot's quantity, in the sequence of the deals. The deals are applied in this
--- sequence, from the position `shares` on.
+-- The HOLDING_HISTORY rows of the lot of the trade `lot`: one for each deal that changes the lot's
+-- quantity. The deals are applied in sequence, from the position `shares` on.
 abbrev pub holding_history_over_deals : ℕ → List Share → List Deal → List HoldingHistoryRow
 holding_history_over_deals lot shares [] = []
 holding_history_over_deals lot shares (d ∷ deals) =
     rows_with_lot_touch d.trade (touch_of_lot lot d shares) (holding_history_over_deals lot (shares_after_deal shares d) deals)
 
--- The HOLDING_HISTORY rows of the lot that the completed trade `t` opened: one for each deal of its
--- position, among the completed trades `done`, that changes the lot's quantity, sorted by
--- completion stamp, ascending; none if `t` opened no share.
+-- The HOLDING_HISTORY rows of the lot of the completed trade `t`: one for each deal of its position
+-- in `done` that changes it, sorted by completion stamp, ascending; none if it opened no share.
 abbrev pub holding_history_rows_of_lot : List Trade → Trade → List HoldingHistoryRow
 holding_history_rows_of_lot done t = holding_history_over_deals t.id [] (deals_of_position done t.account t.symbol)
 
@@ -287,8 +268,7 @@ summary_rows done account symbol =
 abbrev pub settlement_row : List Account → SettleRule → Trade → SettlementRow
 settlement_row accounts rule t = record { trade = t.id; cash_type = t.cash_type; due_day = due_day rule t; amount = settlement_amount accounts t }
 
--- The CASH_TRANSACTION row of the completed cash trade `t`: its id, completion stamp, settlement
--- amount and cash row name.
+-- The CASH_TRANSACTION row of the completed cash trade `t`: id, completion stamp, amount and name.
 abbrev pub cash_transaction_row : List Account → Trade → OldCashRow
 cash_transaction_row accounts t = record { trade = t.id; stamp = last_status_stamp_of_trade t; amount = settlement_amount accounts t; name = t.cash_name }
 
@@ -306,8 +286,7 @@ numbered_cash_move_rows n (p ∷ posted) = cash_move_row n p ∷ numbered_cash_m
 abbrev pub cash_move_rows : Schema → List Posting → List CashRow
 cash_move_rows schema posted = if schema.has_cash_move_table then numbered_cash_move_rows 1 (postings_sorted_by_stamp posted) else []
 
--- The CASH_TRANSACTION rows of the cash trades of `done`, in the sequence of this list; none if
--- `schema` has the table CASH_MOVE.
+-- The CASH_TRANSACTION rows of the cash trades of `done`, in sequence; none with CASH_MOVE.
 abbrev pub cash_transaction_rows : Schema → List Account → List Trade → List OldCashRow
 cash_transaction_rows schema accounts done = if schema.has_cash_move_table then [] else map (cash_transaction_row accounts) (cash_trades done)
 
@@ -338,12 +317,10 @@ tables_without_rows = record {
   rule = None;
 }
 
--- The tables of `base` in the schema `schema`, if `done` are its completed trades. The totals of
--- brokers, the balances, lots, summaries, lot changes, settlements and cash rows are computed from
--- `done`, the balances and the CASH_MOVE rows also from the movements, and the requests from the
--- pending trades. Lots and summaries whose quantity is 0 have no row. The schema determines only
--- which table has the cash rows; CASH_TRANSACTION has none of movements. The rows need not be
--- sorted by key.
+-- The tables of `base` in the schema `schema`, computed from its completed trades `done`; the
+-- balances and the CASH_MOVE rows also from the movements, the requests from the pending trades.
+-- Lots and summaries with the quantity 0 have no row. The schema determines only which table has
+-- the cash rows; CASH_TRANSACTION has none of movements. The rows need not be sorted by key.
 abbrev pub tables_from_completed_trades : Schema → Base → List Trade → Tables
 tables_from_completed_trades schema base done = record {
   last = base.last;

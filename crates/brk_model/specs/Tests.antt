@@ -1,6 +1,5 @@
--- The checks of a well-formed command against the base; the refusal equals that of the first check
--- that applies. The bounds of a commission band are checked here once more: no row that parses has
--- a lower bound above the upper one (`read_quantity_bounds` of Parse).
+-- The checks of a well-formed command, of which the first that applies refuses it. The bounds of a
+-- band are checked once more, although no parsed row has them reversed (`read_quantity_bounds`).
 use Rattle.std.specs.Prelude.{ℕ, ◌+◌, Bool, true, false, not, ◌&&◌, ◌==◌, nat_le, nat_lt, List, [], ◌∷◌, ◌++◌, length, filter, find, Option, option_map}
 use Rattle.std.specs.Prelude.{is_some, is_none, nat_abs, bytes_eq}
 use Rattle.std.specs.List.{list_any}
@@ -37,9 +36,8 @@ RefusalCheck = Bool × Refusal
 abbrev pub first_refusal : List RefusalCheck → Option Refusal
 first_refusal tests = option_map (λ test. test.1) (find (λ test. test.0) tests)
 
--- The stamp of a command that is accepted at the clock reading `now`: `now`, or the last stamp of
--- `base` plus 1 ms if that is later; `now` if there is no last stamp. The value may exceed the
--- greatest stamp; the check `ClockEnd` of `checks_of_stamp` then applies.
+-- The stamp of a command at the clock reading `now`: `now`, or the last stamp of `base` plus 1 ms
+-- if that is later. If it exceeds the greatest stamp, `checks_of_stamp` refuses it (`ClockEnd`).
 abbrev pub stamp_of_next_command : Base → ℕ → ℕ
 stamp_of_next_command base now = unlimited_stamp_after base.last now
 
@@ -74,9 +72,8 @@ bands_overlap b c =
 abbrev pub charge_exists_check : Base → Order → RefusalCheck
 charge_exists_check base o = (is_none (charge_for_type_and_tier base (trade_type_of_order_type o.order_type) (tier_of_account base o.account)), NoCharge)
 
--- The check that refuses with `NoRate` if `base` has no commission band for the quantity of the
--- order `o` (`commission_band_for_quantity`), by the tier of the customer of its account, its trade
--- type and the exchange of its security.
+-- The check that refuses with `NoRate` if `base` has no commission band for the order `o`, by the
+-- tier of its account, its trade type, the exchange of its security and its quantity.
 abbrev pub commission_band_exists_check : Base → Order → RefusalCheck
 commission_band_exists_check base o = (
   is_none (commission_band_for_quantity base (tier_of_account base o.account) (trade_type_of_order_type o.order_type)
@@ -91,17 +88,15 @@ checks_of_order base o =
     account_exists_check base o.account ∷ security_exists_check base o.symbol ∷ (not (may_order_for_account base o.account o.executor), NotPermitted)
     ∷ charge_exists_check base o ∷ commission_band_exists_check base o ∷ []
 
--- The check that refuses with `WrongStatus`, which contains the last status of the trade `t`
--- (`last_status_of_trade`), if `right` is false.
+-- The check that refuses with `WrongStatus` and the last status of the trade `t` if not `right`.
 abbrev pub status_check : Bool → Trade → RefusalCheck
 status_check right t = (not right, WrongStatus (last_status_of_trade t))
 
 -- The checks of a result of the trade `t` at `stamp`, in sequence: `t` is submitted; a commission
--- band applies; in `after`, the absolute value of the holding summary is at most
--- `greatest_summary_quantity`, that of the balance of the account at most `greatest_amount`
--- (checked for a cash trade only), and the commission total of the broker at most
--- `greatest_amount`; and the due day is at most `greatest_day`. `after` is the base that would
--- follow the result.
+-- band applies; in `after`, the base that would follow, the holding summary is at most
+-- `greatest_summary_quantity` and the account's balance (for a cash trade only) at most
+-- `greatest_amount`, in absolute value, and the broker's commission total at most
+-- `greatest_amount`; and the due day is at most `greatest_day`.
 abbrev pub checks_of_result : Base → Base → ℕ → Trade → List RefusalCheck
 checks_of_result base after stamp t =
     status_check (has_last_status Submitted t) t
@@ -121,13 +116,11 @@ checks_of_movement base m =
     ∷ (nat_le greatest_id (length base.movements), Range limit.Moves)
     ∷ []
 
--- The checks that `tests` returns for the trade with the id `id`; if there is no such trade, one
--- check that refuses with `NoTrade`.
+-- The checks of `tests` on the trade with the id `id`; without it, one that refuses with `NoTrade`.
 abbrev pub checks_of_trade_with_id : Base → ℕ → (Trade → List RefusalCheck) → List RefusalCheck
 checks_of_trade_with_id base id tests = option_map_or tests (trade_with_id base id) ((true, NoTrade) ∷ [])
 
--- The checks of a command at the stamp `stamp`, in the sequence in which they are made, except the
--- checks of the stamp itself (`checks_of_stamp`).
+-- The checks of a command at `stamp`, in sequence, except those of the stamp (`checks_of_stamp`).
 unfoldable pub checks_of_command : Base → ℕ → Command → List RefusalCheck
 checks_of_command base stamp (AddBroker b) = duplicate_check (is_some (broker_with_id base b.id)) ∷ []
 checks_of_command base stamp (AddCustomer c) =
@@ -159,15 +152,13 @@ checks_of_command base stamp (DepositCash account amount) = checks_of_movement b
 checks_of_command base stamp (WithdrawCash account amount) = checks_of_movement base (withdrawal_movement stamp account amount)
 checks_of_command base stamp (SetOneDay day) = duplicate_check (is_some base.rule) ∷ []
 
--- True if the command sets a first day of one-day settlement that is not after the UTC day of
--- `stamp`; false for any other command.
+-- True if the command sets a first day of one-day settlement not after the UTC day of `stamp`.
 abbrev pub is_one_day_settlement_start_too_early : ℕ → Command → Bool
 is_one_day_settlement_start_too_early stamp (SetOneDay day) = nat_le day (day_of stamp)
 is_one_day_settlement_start_too_early stamp _ = false
 
--- The checks of the stamp `stamp` of a command, which follow all other checks of the command:
--- `ClockEnd` if the stamp is past the greatest stamp, and `TooEarly` if the command sets a first
--- day of one-day settlement that is not after the UTC day of the stamp.
+-- The checks of a command's stamp, after all others: `ClockEnd` if it is past the greatest stamp,
+-- `TooEarly` if the command sets a first day of one-day settlement that is not after its UTC day.
 abbrev pub checks_of_stamp : ℕ → Command → List RefusalCheck
 checks_of_stamp stamp command = (nat_lt greatest_stamp stamp, ClockEnd) ∷ (is_one_day_settlement_start_too_early stamp command, TooEarly) ∷ []
 

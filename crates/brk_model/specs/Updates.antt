@@ -18,47 +18,38 @@ updated_executor_name name =
 abbrev pub toggled_word : Text → Text → Text → Text
 toggled_word word other text = if bytes_eq text word then other else word
 
--- The updated cash type of the settlement of the trade `t` (SE_CASH_TYPE). For a cash trade it is
--- `Cash` if the old one is `Cash Account`, otherwise `Cash Account`; for a margin trade it is
--- `Margin` if the old one is `Margin Account`, otherwise `Margin Account`.
+-- The updated cash type of the trade `t` (SE_CASH_TYPE), by `toggled_word`: of `Cash Account` and
+-- `Cash` for a cash trade, of `Margin Account` and `Margin` for a margin trade.
 abbrev pub updated_cash_type : Trade → Text
 updated_cash_type t =
     if t.is_cash then toggled_word (codes "Cash Account") (codes "Cash") t.cash_type
     else toggled_word (codes "Margin Account") (codes "Margin") t.cash_type
 
--- The updated name of the cash row of the trade `t` (CM_NAME), computed anew from the trade and its
--- security (`cash_row_name`): with " Shares of " if the old name contains " shares of ", otherwise
--- with " shares of ".
+-- The updated name of the cash row of the trade `t` (CM_NAME), computed anew (`cash_row_name`):
+-- with " Shares of " if the old one contains " shares of ", otherwise with " shares of ".
 abbrev pub updated_cash_row_name : Base → Trade → Text
 updated_cash_row_name base t =
     if contains_text (codes " shares of ") t.cash_name then cash_row_name (codes " Shares of ") base t else cash_row_name (codes " shares of ") base t
 
--- The trades sorted by the stamp of their last status change (T_DTS), then by id, both ascending; a
--- trade without a status change counts as one with the stamp 0.
+-- The trades sorted by the stamp of the last status change (0 without one), then by id, ascending.
 abbrev pub trades_oldest_first : List Trade → List Trade
 trades_oldest_first trades = sort_by (λ t u. is_pair_less (last_status_stamp_of_trade t) (last_status_stamp_of_trade u) t.id u.id) trades
 
--- True if the stamp of the last status change of the trade `t`, or 0 if it has none, is between
--- `first` and `last`, both included.
+-- True if the last status stamp of `t`, 0 without one, is from `first` to `last`, both included.
 abbrev pub trade_stamp_is_between : ℕ → ℕ → Trade → Bool
 trade_stamp_is_between first last t = is_in_range first last (last_status_stamp_of_trade t)
 
--- The ids of the completed trades of `base` that pass `test` and whose last status change has a
--- stamp from `first` to `last`, both included, sorted by `trades_oldest_first`; at most the first
--- 20.
+-- The ids of the completed trades of `base` that pass `test` and have a last status stamp from
+-- `first` to `last`, both included, sorted by `trades_oldest_first`; at most the first 20.
 abbrev pub selected_trade_ids : Base → (Trade → Bool) → ℕ → ℕ → List ℕ
 selected_trade_ids base test first last =
     map (λ t. t.id) (take 20 (trades_oldest_first (filter (λ t. test t && trade_stamp_is_between first last t) (completed_trades base))))
 
--- The ids of the trades that the command `ChangeCashTypes` of the account `account` updates: the
--- completed trades of the account whose last status change has a stamp from `first` to `last`, both
--- included, sorted by `trades_oldest_first`; at most the first 20.
+-- The ids that `ChangeCashTypes` updates: the `selected_trade_ids` among the account's trades.
 abbrev pub selected_trade_ids_of_account : Base → ℕ → ℕ → ℕ → List ℕ
 selected_trade_ids_of_account base account first last = selected_trade_ids base (λ t. t.account == account) first last
 
--- The ids of the trades that the command `ChangeCashNames` of the symbol `symbol` updates: the
--- completed cash trades of the symbol whose last status change has a stamp from `first` to `last`,
--- both included, sorted by `trades_oldest_first`; at most the first 20.
+-- The ids that `ChangeCashNames` updates: the `selected_trade_ids` among the symbol's cash trades.
 abbrev pub selected_trade_ids_of_symbol : Base → Text → ℕ → ℕ → List ℕ
 selected_trade_ids_of_symbol base symbol first last = selected_trade_ids base (λ t. t.is_cash && bytes_eq t.symbol symbol) first last
 

@@ -5,10 +5,9 @@ use Rattle.brk_model.specs.Schemas.{Schema}
 use Rattle.brk_model.specs.Tables.{Tables, numbered_cash_move_rows}
 use Rattle.brk_model.specs.Adopted.{postings_of_tables}
 
--- The tables `t` with all cash rows in CASH_MOVE, sorted by stamp, ascending, and numbered from 1,
--- and with CASH_TRANSACTION empty; all else is unchanged. Rows with equal stamps keep their
--- sequence, those of CASH_TRANSACTION first. A row of CASH_TRANSACTION gets the account of its
--- trade, or 0 if the trade does not exist.
+-- The tables `t` with all cash rows in CASH_MOVE, stably sorted by stamp, ascending, those of
+-- CASH_TRANSACTION first, numbered from 1, and CASH_TRANSACTION empty. A row of CASH_TRANSACTION
+-- gets the account of its trade, or 0 if the trade does not exist.
 unfoldable pub tables_with_merged_cash_rows : Tables → Tables
 tables_with_merged_cash_rows t = record t { cash = []; moves = numbered_cash_move_rows 1 (postings_sorted_by_stamp (postings_of_tables t)) }
 

@@ -15,8 +15,7 @@ abbrev pub sector_requests_of_broker : Tables → Text → ℕ → List RequestR
 sector_requests_of_broker tables sector broker =
     filter (λ r. (r.broker == broker) && option_map_or (λ s. bytes_eq s.sector sector) (security_row_with_symbol tables r.symbol) false) tables.requests
 
--- The value of the pending requests of the broker `broker` in the sector `sector`, in cents: the
--- sum of quantity times bid price.
+-- The sum of quantity times bid, in cents, over the pending requests of `broker` in `sector`.
 abbrev pub value_of_sector_requests_of_broker : Tables → Text → ℕ → ℕ
 value_of_sector_requests_of_broker tables sector broker = sum_by (λ r. r.qty * r.bid) (sector_requests_of_broker tables sector broker)
 
@@ -29,8 +28,7 @@ is_before_by_volume tables sector a b =
     && (is_text_less a.name b.name || (bytes_eq a.name b.name && nat_lt a.id b.id)))
 
 -- One record (name, id, volume) for each broker that has one of the `names` and a pending request
--- in the sector, sorted by volume, descending, then by name (`is_text_less`) and id, ascending. The
--- volume is the text of an amount (`nonnegative_cents_text`).
+-- in the sector, sorted by volume, descending, then by name (`is_text_less`) and id, ascending.
 unfoldable pub broker_volume_view : Tables → Text → List Text → View
 broker_volume_view tables sector names =
     map (λ b. b.name ∷ decimal b.id ∷ nonnegative_cents_text (value_of_sector_requests_of_broker tables sector b.id) ∷ [])

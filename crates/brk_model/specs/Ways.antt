@@ -1,5 +1,4 @@
--- The audit condition `Status`: the status sequence of each trade, and the stamps of completions
--- and movements.
+-- The audit condition `Status`: status sequences of trades, stamps of completions and movements.
 use Rattle.std.specs.Prelude.{ℕ, Bool, true, false, ◌&&◌, ◌==◌, nat_lt, List, [], ◌∷◌, ◌++◌, map, filter, is_none}
 use Rattle.std.specs.List.{list_all}
 use Rattle.brk_money.specs.Kinds.{is_same_trade_status}
@@ -10,9 +9,8 @@ use Rattle.brk_model.specs.Records.{StatusChange}
 use Rattle.brk_model.specs.Tables.{Tables, TradeRow}
 use Rattle.brk_model.specs.Adopted.{status_changes_of_trade}
 
--- True if the statuses are one of the six valid status sequences of a trade. They begin with
--- `Pending` or `Submitted`; `Submitted` or `Canceled` may follow `Pending`, and `Completed` may
--- follow `Submitted`.
+-- True if the statuses are one of the six valid sequences: `Pending` or `Submitted` first,
+-- `Submitted` or `Canceled` after `Pending`, `Completed` after `Submitted`.
 abbrev pub is_valid_status_sequence : List Status → Bool
 is_valid_status_sequence (Submitted ∷ []) = true
 is_valid_status_sequence (Submitted ∷ Completed ∷ []) = true
@@ -28,16 +26,14 @@ is_strictly_ascending [] = true
 is_strictly_ascending (m ∷ []) = true
 is_strictly_ascending (m ∷ n ∷ ns) = nat_lt m n && is_strictly_ascending (n ∷ ns)
 
--- True if the TRADE row `row` has the status and the stamp of the last of the status changes; false
--- if there are no status changes.
+-- True if the TRADE row has the status and the stamp of the last status change, which must exist.
 abbrev pub matches_last_status_change : TradeRow → List StatusChange → Bool
 matches_last_status_change row [] = false
 matches_last_status_change row (m ∷ []) = is_same_trade_status row.status m.status && (row.stamp == m.stamp)
 matches_last_status_change row (m ∷ n ∷ marks) = matches_last_status_change row (n ∷ marks)
 
--- True if the statuses of the trade of `row` in TRADE_HISTORY, sorted by stamp, are a valid
--- sequence with strictly ascending stamps, and the row has the status and the stamp of the last
--- one.
+-- True if the trade of `row` has a valid status sequence in TRADE_HISTORY, with strictly ascending
+-- stamps, and the row has the status and the stamp of the last status change.
 abbrev pub has_valid_status_history : Tables → TradeRow → Bool
 has_valid_status_history t row =
     is_valid_status_sequence (map (λ m. m.status) (status_changes_of_trade t row.id))

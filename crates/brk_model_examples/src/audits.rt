@@ -75,7 +75,7 @@ pub fn audit_fails_for_invalid_movement_rows()
 /// the third. Tables with a first day of one-day settlement fail the audit of the second schema
 /// with `Form`, tables with a row of CASH_MOVE that of the first with `Form`, and tables whose cash
 /// row is in CASH_TRANSACTION that of the second with `Cash`.
-pub fn audit_applies_limits_of_schema()
+pub fn audit_depends_on_schema()
     ensures quantity { IsAuditResult second_schema tables_with_trade_above_older_limit (Some condition.Form) }
     ensures band { IsAuditResult second_schema tables_with_band_above_older_limit (Some condition.Form) }
     ensures larger_limits { IsAuditResult third_schema tables_with_band_above_older_limit None }

@@ -1,10 +1,11 @@
-//! The format checks of fields, and the order of their refusals.
+//! The format checks of fields, the order of their refusals, and canonical texts.
 #![tactic(auto, unfolding(crate::proofs::OnLiterals::model_on_literals))]
 
 ghost use Rattle.std.specs.Prelude.{◌≡◌, ◌∷◌, [], Err, Some, None, pos, negsuc, codes};
 ghost use Rattle.std.specs.List.{repeat};
-ghost use Rattle.brk_money.specs.Spelling.{cents_of_text, decimal_number_of_text};
+ghost use Rattle.brk_money.specs.Spelling.{cents_of_text, decimal_number_of_text, day_text, day_of_text};
 ghost use Rattle.brk_money.specs.declared.refusal.Refusal.TheVariants.{BadText, BadQty, BadPrice, BadType, TooMany};
+ghost use Rattle.brk_money.specs.Moments.{greatest_day};
 ghost use Rattle.brk_model.specs.Parse.{parse_row};
 ghost use Rattle.brk_model_examples.specs.Batches.{BatchOutputsLines};
 ghost use Rattle.brk_model_examples.specs.Setting.{setting_base};
@@ -60,4 +61,15 @@ pub fn noncanonical_opening_balance_is_refused()
         ∷ codes "2,no,18"
         ∷ codes "3,no,18"
         ∷ codes "end,0,0,3" ∷ []) }
+{}
+
+/// Shows the texts of some days with their numbers, in days since 1970-01-01. A date that the
+/// calendar does not have, and a text that is not canonical, parse as no day.
+pub fn day_texts_match_day_numbers()
+    ensures march { day_of_text (codes "2024-03-01") ≡ Some 19783 }
+    ensures leap { day_of_text (codes "2024-02-29") ≡ Some 19782 }
+    ensures no_leap { day_of_text (codes "2023-02-29") ≡ None }
+    ensures first { day_text 0 ≡ codes "1970-01-01" }
+    ensures last { day_text greatest_day ≡ codes "9999-12-31" }
+    ensures short { day_of_text (codes "2024-3-01") ≡ None }
 {}

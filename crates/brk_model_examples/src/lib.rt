@@ -4,19 +4,21 @@
 #![tactic(auto)]
 
 pub mod audits;
-pub mod checks;
 pub mod closings;
-pub mod crowds;
 pub mod forms;
+pub mod http_requests;
+pub mod inputs;
+pub mod many_trades;
 pub mod markets;
 pub mod movements;
-pub mod permissions;
+pub mod order_checks;
 pub mod reference;
-pub mod repeats;
+pub mod result_refusals;
+pub mod retries;
 pub mod rules;
 pub mod settling;
+pub mod stamps;
 pub mod statements;
-pub mod statuses;
 pub mod streams;
 pub mod tables;
 pub mod taxes;

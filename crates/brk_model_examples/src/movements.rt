@@ -81,13 +81,6 @@ pub fn movement_before_trades_has_first_cash_row()
         ∷ codes "result,1,10.10" ∷ []))).moves ≡ pos 10000 ∷ negsuc 102509 ∷ [] }
 {}
 
-/// Shows that a deposit that is retried under its key is not booked again.
-pub fn retried_deposit_is_not_booked_again()
-    ensures { map {B = ℤ} (λ row. row.balance) (tables_of_base (base_after_batch (base_after_batch setting_base
-        (codes "deposit,100,100.00" ∷ []))
-        (codes "deposit,100,100.00" ∷ []))).accounts ≡ pos 1010000 ∷ [] }
-{}
-
 /// Shows that a movement is refused with `BadText` (18) if its amount is malformed, out of range or
 /// missing, or if its account is 0.
 pub fn malformed_movements_are_refused()

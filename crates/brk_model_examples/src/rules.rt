@@ -1,19 +1,16 @@
-//! Single rules, each at its limits.
+//! Single definitions at their limits: rounding, triggers, withheld tax, due days, executors.
 #![tactic(auto, unfolding(crate::proofs::OnLiterals::model_on_literals))]
 
-ghost use Rattle.std.specs.Prelude.{◌≡◌, ◌∷◌, [], ℕ, ℤ, pos, negsuc, map, true, false, Some, None, codes};
+ghost use Rattle.std.specs.Prelude.{◌≡◌, ◌∷◌, [], ℤ, pos, negsuc, map, true, false, Some, None};
 ghost use Rattle.brk_money.specs.Amounts.{commission, tax};
 ghost use Rattle.brk_money.specs.declared.trade_type.TradeType.TheVariants.{LimitBuy, LimitSell, MarketBuy, MarketSell, StopLoss};
 ghost use Rattle.brk_money.specs.declared.tax_status.TaxStatus.TheVariants.{Reported, Untaxed, Withheld};
 ghost use Rattle.brk_model.specs.Derived.{settlement_amount, balance_of_account, due_day_of_completion_stamp, postings};
 ghost use Rattle.brk_model.specs.Feed.{is_triggering_price};
 ghost use Rattle.brk_model.specs.Orders.{is_customer_or_has_permission};
-ghost use Rattle.brk_model.specs.Tests.{stamp_of_next_command};
-ghost use Rattle.brk_model_examples.specs.Batches.{base_after_batch};
 ghost use Rattle.brk_model_examples.specs.Rules.{account_with_tax_status, customer_ann_lee, permission_with_other_tax_id, executor_with_customer_identity};
 ghost use Rattle.brk_model_examples.specs.Rules.{executor_with_other_tax_id, first_purchase_on_margin, permission_with_other_last_name};
-ghost use Rattle.brk_model_examples.specs.Setting.{setting_base};
-ghost use Rattle.brk_model_examples.specs.Trading.{base_after_sale_of_all, first_purchase, sale_first_in_first_out};
+ghost use Rattle.brk_model_examples.specs.Trading.{first_purchase, sale_first_in_first_out};
 
 /// Shows that half a cent of a commission is rounded up and that 0.49 cents are rounded down. Shows
 /// also the tax on one gain, and that one loss is not taxed.
@@ -70,19 +67,4 @@ pub fn executor_matches_customer_or_permission()
     ensures permitted_namesake { is_customer_or_has_permission customer_ann_lee (permission_with_other_tax_id ∷ []) executor_with_other_tax_id ≡ true }
     ensures permission_with_other_name { is_customer_or_has_permission customer_ann_lee (permission_with_other_last_name ∷ []) executor_with_other_tax_id
         ≡ false }
-{}
-
-/// Shows that the stamp of a command is the clock reading if this is after the last stamp, and is
-/// the millisecond after the last stamp for an earlier clock reading and for one at the last stamp.
-pub fn stamp_exceeds_last_stamp()
-    ensures clock_before_last { stamp_of_next_command base_after_sale_of_all 0 ≡ 1709251200028 }
-    ensures clock_at_last { stamp_of_next_command base_after_sale_of_all 1709251200027 ≡ 1709251200028 }
-    ensures clock_after_last { stamp_of_next_command base_after_sale_of_all 1709337600000 ≡ 1709337600000 }
-{}
-
-/// Shows that an order that is retried under its key adds no second trade.
-pub fn retried_order_adds_no_trade()
-    ensures { map {B = ℕ} (λ t. t.id) (base_after_batch (base_after_batch setting_base
-        (codes "order,100,TMB,ABC,100,,cash,fifo,Ann,Lee,T10" ∷ []))
-        (codes "order,100,TMB,ABC,100,,cash,fifo,Ann,Lee,T10" ∷ [])).trades ≡ 1 ∷ [] }
 {}

@@ -1,4 +1,4 @@
-//! The first day of one-day settlement, and large quantities.
+//! Due days: the first day of one-day settlement, and completions at the end of the calendar.
 #![tactic(auto, unfolding(crate::proofs::OnLiterals::model_on_literals))]
 
 ghost use Rattle.std.specs.Prelude.{◌≡◌, ◌∷◌, [], ℕ, map, Some, replicate, codes};
@@ -87,17 +87,31 @@ pub fn malformed_days_are_refused()
         ∷ codes "end,1,0,5" ∷ []) }
 {}
 
-/// Shows that an order of 1,000,000 shares is refused with `NoRate` (11) until a commission band
-/// contains this quantity, and that an order of 10,000,000 shares is refused with `BadQty` (8).
-pub fn large_quantities_need_a_commission_band()
-    ensures { BatchOutputsLines setting_base
-        (codes "order,100,TMB,ABC,1000000,,cash,fifo,Ann,Lee,T10"
-        ∷ codes "band,1,TMB,NYSE,1000000,9999999,50"
-        ∷ codes "order,100,TMB,ABC,1000000,,cash,fifo,Ann,Lee,T10"
-        ∷ codes "order,100,TMB,ABC,10000000,,cash,fifo,Ann,Lee,T10" ∷ [])
-        (codes "1,no,11"
-        ∷ codes "2,ok,1709251200016"
-        ∷ codes "3,ok,1709251200017,1,SBMT,10.00,0.00,0.00,0.00,50000.00,5.00,10000.00"
-        ∷ codes "4,no,8"
-        ∷ codes "end,2,0,2" ∷ []) }
+/// Shows that a result is refused with `ClockEnd` (21) if the due day of its trade is after
+/// 9999-12-31.
+pub fn due_day_beyond_calendar_is_refused()
+    ensures { (result_of_batch_input setting_base (253402300799000 ∷ 0 ∷ []) (bytes_of_batch (codes "Y")
+        (codes "order,100,TMB,ABC,100,,cash,fifo,Ann,Lee,T10"
+        ∷ codes "result,1,10.00" ∷ []))).text
+        ≡ text_with_line_ends (codes "1,ok,253402300799000,1,SBMT,10.00,0.00,0.00,0.00,10.00,5.00,10000.00"
+        ∷ codes "2,no,21"
+        ∷ codes "end,1,0,1" ∷ []) }
+{}
+
+/// Shows that 9999-12-29 is the last day for a completion that settles after two days: a completion
+/// in the last millisecond of this day is accepted, and one a millisecond later is refused with
+/// `ClockEnd` (21).
+pub fn two_day_settlement_beyond_calendar_is_refused()
+    ensures accepted { (result_of_batch_input setting_base (253402127999998 ∷ 253402127999999 ∷ []) (bytes_of_batch (codes "Y")
+        (codes "order,100,TMB,ABC,100,,cash,fifo,Ann,Lee,T10"
+        ∷ codes "result,1,10.00" ∷ []))).text
+        ≡ text_with_line_ends (codes "1,ok,253402127999998,1,SBMT,10.00,0.00,0.00,0.00,10.00,5.00,10000.00"
+        ∷ codes "2,ok,253402127999999,10.00,0.00,-1015.00,9999-12-31,0.00,0.00,8985.00"
+        ∷ codes "end,2,0,0" ∷ []) }
+    ensures refused { (result_of_batch_input setting_base (253402127999999 ∷ 253402128000000 ∷ []) (bytes_of_batch (codes "Y")
+        (codes "order,100,TMB,ABC,100,,cash,fifo,Ann,Lee,T10"
+        ∷ codes "result,1,10.00" ∷ []))).text
+        ≡ text_with_line_ends (codes "1,ok,253402127999999,1,SBMT,10.00,0.00,0.00,0.00,10.00,5.00,10000.00"
+        ∷ codes "2,no,21"
+        ∷ codes "end,1,0,1" ∷ []) }
 {}

@@ -1,9 +1,7 @@
-//! Statements.
+//! Statements of accounts, and their lines of amounts.
 #![tactic(auto, unfolding(crate::proofs::OnLiterals::model_on_literals))]
 
-ghost use Rattle.std.specs.Prelude.{◌≡◌, ◌∷◌, [], Ok, Err, Some, None, codes, negsuc, pos};
-ghost use Rattle.brk_money.specs.Spelling.{day_text, day_of_text};
-ghost use Rattle.brk_money.specs.Moments.{greatest_day};
+ghost use Rattle.std.specs.Prelude.{◌≡◌, ◌∷◌, [], Ok, Err, codes, negsuc, pos};
 ghost use Rattle.brk_money.specs.declared.refusal.Refusal.TheVariants.{BadText, NoAccount};
 ghost use Rattle.brk_model.specs.Tables.{tables_of_base};
 ghost use Rattle.brk_model.specs.Statement.{amount_line, statement};
@@ -43,15 +41,4 @@ pub fn wide_amounts_are_not_cut()
     ensures narrow { amount_line (codes "Holdings") (negsuc 0) ≡ codes "Holdings                    -0.01" }
     ensures full { amount_line (codes "Holdings") (pos 100000000000000000000) ≡ codes "Holdings   1000000000000000000.00" }
     ensures wider { amount_line (codes "Holdings") (pos 1000000000000000000000) ≡ codes "Holdings   10000000000000000000.00" }
-{}
-
-/// Shows the texts of some days with their numbers, in days since 1970-01-01. A date that the
-/// calendar does not have, and a text that is not canonical, parse as no day.
-pub fn day_texts_match_day_numbers()
-    ensures march { day_of_text (codes "2024-03-01") ≡ Some 19783 }
-    ensures leap { day_of_text (codes "2024-02-29") ≡ Some 19782 }
-    ensures no_leap { day_of_text (codes "2023-02-29") ≡ None }
-    ensures first { day_text 0 ≡ codes "1970-01-01" }
-    ensures last { day_text greatest_day ≡ codes "9999-12-31" }
-    ensures short { day_of_text (codes "2024-3-01") ≡ None }
 {}

@@ -1,4 +1,4 @@
-//! Requests to the setting, and their replies.
+//! Streams of HTTP requests to a desk that was set up, and their replies.
 #![tactic(auto, unfolding(crate::proofs::WebOnLiterals::web_on_literals))]
 
 ghost use Rattle.std.specs.Prelude.{◌∷◌, [], codes};

@@ -27,8 +27,7 @@ account_header_lines a =
     ∷ codes "#      posted                       cash row         trade                 amount                balance name"
     ∷ []
 
--- The cash rows of `account` with stamps from 1970-01-01 to 9999-12-31, both included, sorted by
--- stamp, ascending.
+-- The cash rows of `account` until 9999-12-31, included, sorted by stamp, ascending.
 abbrev pub account_cash_rows_by_stamp : Tables → ℕ → List CashRow
 account_cash_rows_by_stamp tables account = cash_move_rows_within_days 0 greatest_day (sorted_cash_rows_of_account tables account)
 
@@ -36,17 +35,15 @@ account_cash_rows_by_stamp tables account = cash_move_rows_within_days 0 greates
 abbrev pub trade_id_or_hyphen : Option ℕ → Text
 trade_id_or_hyphen trade = option_map_or decimal trade (codes "-")
 
--- The line of the cash row `row`, with columns separated by spaces: the word `Posted`, its
--- timestamp, its id, the id of its trade or a hyphen, its amount, the balance `balance`, which is
--- given in cents, and its name.
+-- The line of the cash row `row`, with columns separated by spaces: `Posted`, timestamp, id, id of
+-- its trade or a hyphen, amount, the balance `balance`, in cents, and name.
 unfoldable pub cash_posting_line : CashRow → ℤ → Text
 cash_posting_line row balance =
     left_aligned_text 6 (codes "Posted") ++ 32 ∷ timestamp_text row.stamp ++ 32 ∷ right_aligned_text 13 (decimal row.id) ++ 32
     ∷ right_aligned_text 13 (trade_id_or_hyphen row.trade)
     ++ amount_column row.amount ++ amount_column balance ++ 32 ∷ row.name
 
--- One line for each of `rows`, with the balance after it: `opening`, in cents, plus the amounts of
--- the rows up to and including this one.
+-- One line for each of `rows`, with the running balance after it, from `opening` cents on.
 abbrev pub cash_posting_lines : ℤ → List CashRow → List Text
 cash_posting_lines opening rows = lines_with_running_total (λ row. row.amount) cash_posting_line opening rows
 
@@ -64,8 +61,7 @@ pub record PricedHolding : Type 0 where
   pub summary : SummaryRow
   pub price : ℕ
 
--- The market value of the holding `held`, in cents: its quantity times the last price, never above
--- 0 if the shares were sold short.
+-- The market value of the holding `held`, in cents: its signed quantity times the last price.
 abbrev pub market_value_of_holding : PricedHolding → ℤ
 market_value_of_holding held = held.summary.qty *ℤ pos held.price
 
@@ -73,8 +69,7 @@ market_value_of_holding held = held.summary.qty *ℤ pos held.price
 abbrev pub market_value_of_holdings : List PricedHolding → ℤ
 market_value_of_holdings all = total_by market_value_of_holding all
 
--- The first columns of the line of a holding, separated by spaces: the word `Held`, left-aligned in
--- 6 places, `symbol`, left-aligned in 15, and an empty column of 13 places.
+-- The first columns of a holding's line: `Held` in 6, `symbol` in 15, left-aligned, and 13 blanks.
 unfoldable pub holding_line_start : Text → Text
 holding_line_start symbol = left_aligned_text 6 (codes "Held") ++ 32 ∷ left_aligned_text 15 symbol ++ 32 ∷ right_aligned_text 13 []
 
@@ -83,30 +78,25 @@ holding_line_start symbol = left_aligned_text 6 (codes "Held") ++ 32 ∷ left_al
 unfoldable pub quantity_and_price_columns : ℤ → ℕ → Text
 quantity_and_price_columns qty price = 32 ∷ right_aligned_text 11 (signed_decimal qty) ++ 32 ∷ right_aligned_text 10 (nonnegative_cents_text price)
 
--- The line of the holding `held`: the word `Held`, its symbol, an empty column, its quantity, the
--- last price and its market value.
+-- The line of the holding `held`: `Held`, symbol, empty column, quantity, last price, market value.
 unfoldable pub holding_line : PricedHolding → Text
 holding_line held =
     holding_line_start held.summary.symbol ++ quantity_and_price_columns held.summary.qty held.price ++ amount_column (market_value_of_holding held)
 
--- The holding summary `row` with the last price of its symbol in `tables`, or with the price 0 if
--- `tables` has no LAST_TRADE row of the symbol.
+-- The holding summary `row` with the last price of its symbol, 0 without a LAST_TRADE row.
 abbrev pub priced_holding : Tables → SummaryRow → PricedHolding
 priced_holding tables row = record { summary = row; price = last_price_in_tables tables row.symbol }
 
--- The holding summaries of `account`, in the order of the table HOLDING_SUMMARY, each with the last
--- price of its symbol, or with the price 0 if `tables` has no LAST_TRADE row of the symbol.
+-- The `priced_holding` of each summary of `account`, in the order of the table HOLDING_SUMMARY.
 abbrev pub priced_holdings_of_account : Tables → ℕ → List PricedHolding
 priced_holdings_of_account tables account = map (priced_holding tables) (filter (λ row. row.account == account) tables.summaries)
 
--- The last line of the explanation of an account: the numbers of its cash rows (`cash`), lots and
--- symbols.
+-- The last line: the numbers of the account's cash rows (`cash`), lots and symbols.
 abbrev pub account_counts_line : ℕ → ℕ → ℕ → Text
 account_counts_line cash lots symbols = codes "Cash rows " ++ decimal cash ++ codes ", lots " ++ decimal lots ++ codes ", symbols " ++ decimal symbols
 
--- The last lines of the explanation of an account, from its balance and the market value `holdings`
--- of its holdings, both given in cents: the market value, the assets, which are the balance plus
--- the market value, and the numbers of its cash rows (`cash`), lots and symbols.
+-- The last lines of the explanation of an account, from its balance and the market value
+-- `holdings`, in cents: the market value, the assets (their sum), and `account_counts_line`.
 unfoldable pub account_total_lines : ℤ → ℤ → ℕ → ℕ → ℕ → List Text
 account_total_lines balance holdings cash lots symbols =
     labeled_amount (codes "Holdings") holdings
@@ -114,15 +104,13 @@ account_total_lines balance holdings cash lots symbols =
     ∷ account_counts_line cash lots symbols
     ∷ []
 
--- A line for each of the holdings `held` of the account `a`, and the last lines of the explanation
--- of the account. `cash` and `lots` are the numbers of its cash rows and lots; the number of its
--- symbols is the number of `held`.
+-- A line for each of the holdings `held` of the account `a`, then the last lines, with the numbers
+-- of its cash rows (`cash`), its lots (`lots`) and its symbols, one for each of `held`.
 abbrev pub holding_and_total_lines : AccountRow → List PricedHolding → ℕ → ℕ → List Text
 holding_and_total_lines a held cash lots = map holding_line held ++ account_total_lines a.balance (market_value_of_holdings held) cash lots (length held)
 
--- All lines of the explanation of the account `a`: the first lines, its cash rows
--- (`account_cash_rows_by_stamp`) with the balance after each, its balance, its lots, sorted by
--- symbol, then by stamp, its holdings, in the order of HOLDING_SUMMARY, and the last lines.
+-- The explanation of the account `a`: first lines, cash rows with the balance after each, balance,
+-- lots by symbol, then by stamp, holdings in the order of HOLDING_SUMMARY, and last lines.
 unfoldable pub account_explanation_lines : Tables → AccountRow → List Text
 account_explanation_lines tables a =
     account_header_lines a

@@ -29,16 +29,14 @@ abbrev pub completed_trades_of_broker : Tables → ℕ → List TradeRow
 completed_trades_of_broker tables broker =
     sort_by_key (λ u. u.stamp) (filter (λ u. has_completed_status u && (broker_of_account_or_zero tables u.account == broker)) tables.trades)
 
--- The line of the completed trade `u`: the word `Trade`, its timestamp, id, account and commission,
--- and `total`, in cents, the sum of the commissions up to and including this trade.
+-- The line of the trade `u`: `Trade`, timestamp, id, account, commission, running `total` in cents.
 unfoldable pub trade_commission_line : TradeRow → ℤ → Text
 trade_commission_line u total =
     left_aligned_text 6 (codes "Trade") ++ 32 ∷ timestamp_text u.stamp ++ 32 ∷ right_aligned_text 13 (decimal u.id) ++ 32
     ∷ right_aligned_text 13 (decimal u.account)
     ++ amount_column (pos u.commission) ++ amount_column total
 
--- The first lines of the explanation of the broker `b`: the title, its name, and the column
--- headings of the trades.
+-- The first lines of the explanation of the broker `b`: title, name, column headings of the trades.
 unfoldable pub broker_header_lines : BrokerRow → List Text
 broker_header_lines b =
     (codes "Broker " ++ decimal b.id ++ codes ", times in UTC")
@@ -54,22 +52,19 @@ trade_commission_lines done = lines_with_running_total (λ u. pos u.commission) 
 abbrev pub broker_counts_line : ℕ → ℕ → Text
 broker_counts_line accounts trades = codes "Accounts " ++ decimal accounts ++ codes ", trades " ++ decimal trades
 
--- The last lines of the explanation of the broker `b`: the totals that the row `b` records, and the
--- numbers of its accounts and of its trades.
+-- The last lines: the totals that the row `b` records, and the numbers of accounts and trades.
 unfoldable pub broker_total_lines : BrokerRow → ℕ → ℕ → List Text
 broker_total_lines b accounts trades =
     labeled_amount (codes "Commissions") (pos b.commissions) ∷ labeled_value (codes "Trades") (signed_decimal b.trades) ∷ broker_counts_line accounts trades
     ∷ []
 
--- All lines of the explanation of the broker `b`: the title, its name, the column headings, a line
--- for each of its completed trades `done` with the running total of commissions, the totals that
--- the row `b` records, and the numbers of its accounts (`accounts`) and of these trades.
+-- The explanation of the broker `b`: title, name, column headings, a line for each of its completed
+-- trades `done` with the running total of commissions, and last lines, with its `accounts`.
 unfoldable pub broker_lines_from_trades : BrokerRow → ℕ → List TradeRow → List Text
 broker_lines_from_trades b accounts done = broker_header_lines b ++ trade_commission_lines done ++ broker_total_lines b accounts (length done)
 
--- All lines of the explanation of the broker `b`: the title, its name, the column headings, a line
--- for each of its completed trades, sorted by the stamp of completion, ascending, with the running
--- total of commissions, the totals that the row `b` records, and the numbers of its accounts and of
--- these trades.
+-- The explanation of the broker `b`: title, name, column headings, a line for each of its completed
+-- trades, sorted by the stamp of completion, ascending, with the running total of commissions, the
+-- totals that the row `b` records, and the numbers of its accounts and of these trades.
 unfoldable pub broker_explanation_lines : Tables → BrokerRow → List Text
 broker_explanation_lines tables b = broker_lines_from_trades b (length (accounts_with_broker tables b.id)) (completed_trades_of_broker tables b.id)

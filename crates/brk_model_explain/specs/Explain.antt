@@ -13,28 +13,24 @@ use Rattle.brk_model_explain.specs.AccountLines.{account_explanation_lines}
 use Rattle.brk_model_explain.specs.HoldingLines.{holding_explanation_lines}
 use Rattle.brk_model_explain.specs.BrokerLines.{broker_row_with_id, broker_explanation_lines}
 
--- A request for an explanation: of a trade, of an account, of the holding of an account in a
--- symbol, or of a broker. Trades, accounts and brokers are given by their ids.
+-- A request for an explanation of a trade, an account, a holding in a symbol, or a broker, by ids.
 pub data ExplainRequest : Type 0 where
   TradeOf : (trade : ℕ) → ExplainRequest
   AccountOf : (account : ℕ) → ExplainRequest
   HoldingOf : (account : ℕ) → (symbol : Text) → ExplainRequest
   BrokerOf : (broker : ℕ) → ExplainRequest
 
--- The id that the only argument parses as, or the refusal `BadText` if there is not exactly one
--- argument or if it is malformed.
+-- The id that exactly one argument parses as, otherwise the refusal `BadText`.
 abbrev pub read_single_id : List Text → ReadResult ℕ
 read_single_id (id ∷ []) = read_id id
 read_single_id _ = Err BadText
 
--- The request for a holding that exactly two arguments parse as, the id of an account and a symbol,
--- or the refusal `BadText` if there are not exactly two arguments or if one is malformed.
+-- The request for a holding from exactly two arguments (account, symbol), or the refusal `BadText`.
 abbrev pub read_holding_request : List Text → ReadResult ExplainRequest
 read_holding_request (account ∷ symbol ∷ []) = Ok (λ a s. HoldingOf a s) ⊛ read_id account ⊛ read_symbol symbol
 read_holding_request _ = Err BadText
 
--- The parsers of the four kinds of requests, each with the first argument of its kind: `trade`,
--- `account`, `holding` or `broker`.
+-- The parsers of the requests, each with its kind: `trade`, `account`, `holding` or `broker`.
 abbrev pub explain_request_parsers : List (NamedParser ExplainRequest)
 explain_request_parsers =
     (codes "trade", read_and_wrap TradeOf read_single_id)
@@ -43,9 +39,8 @@ explain_request_parsers =
     ∷ (codes "broker", read_and_wrap BrokerOf read_single_id)
     ∷ []
 
--- The request that the arguments `words` parse as, the first of which names its kind. It is the
--- refusal `BadText` if there is no argument or the kind is unknown, or if the arguments after the
--- kind are malformed or are more or fewer than the kind takes.
+-- The request that the arguments `words` parse as, the first of which names its kind; otherwise
+-- `BadText`, also if the kind is unknown or takes fewer or more arguments.
 unfoldable pub read_explain_request : List Text → ReadResult ExplainRequest
 read_explain_request words = parse_by_first_field explain_request_parsers words
 
@@ -54,16 +49,14 @@ abbrev pub lines_or_refusal : {Row : Type 0} → Refusal → (Row → List Text)
 lines_or_refusal refusal lines None = Err refusal
 lines_or_refusal refusal lines (Some row) = Ok (lines row)
 
--- The lines of the explanation of the holding of an account in the security `symbol`. They are
--- refused with `NoAccount` if there is no account, otherwise with `NoSecurity` if there is no such
--- security.
+-- The explanation of the holding of an account in the security `symbol`, or the refusal `NoAccount`
+-- if there is no account, otherwise `NoSecurity` if there is no such security.
 abbrev pub holding_lines_or_refusal : Tables → Text → Option AccountRow → Result (List Text) Refusal
 holding_lines_or_refusal tables symbol None = Err NoAccount
 holding_lines_or_refusal tables symbol (Some a) = lines_or_refusal NoSecurity (holding_explanation_lines tables a) (security_row_with_symbol tables symbol)
 
--- The lines of the requested explanation. The request is refused with `NoTrade`, `NoAccount`,
--- `NoSecurity` or `NoBroker` if there is no such trade, account, security or broker; for a holding,
--- `NoAccount` is checked first.
+-- The lines of the requested explanation, or the refusal `NoTrade`, `NoAccount`, `NoSecurity` or
+-- `NoBroker` of what does not exist; for a holding, `NoAccount` is checked first.
 unfoldable pub explanation : Tables → ExplainRequest → Result (List Text) Refusal
 explanation tables (TradeOf trade) = lines_or_refusal NoTrade (λ u. trade_explanation_lines (details_of_trade tables u)) (trade_row_with_id tables trade)
 explanation tables (AccountOf account) = lines_or_refusal NoAccount (account_explanation_lines tables) (account_row_with_id tables account)

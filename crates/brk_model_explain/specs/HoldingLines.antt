@@ -19,8 +19,7 @@ use Rattle.std.specs.Fmt.{signed_decimal}
 abbrev pub holding_title : ℕ → Text → Text
 holding_title account symbol = codes "Holding of account " ++ decimal account ++ codes " in " ++ symbol ++ codes ", times in UTC"
 
--- The first lines of the explanation of the holding of the account `a` in the security `s`: the
--- title, the names of the account and the security, and the column headings of the trades.
+-- The first lines of the explanation of a holding: title, names of account and security, headings.
 unfoldable pub holding_header_lines : AccountRow → SecurityRow → List Text
 holding_header_lines a s =
     holding_title a.id s.symbol
@@ -29,9 +28,8 @@ holding_header_lines a s =
     ∷ codes "#      completed                       trade      shares      price            value        held type"
     ∷ []
 
--- The line of the completed trade `u`: the word `Trade`, its timestamp, id, quantity, price (0 if
--- it has none) and value, `held`, the quantity of the holding after it, and the code of its type.
--- Its quantity and value are negated if it is a sale.
+-- The line of the completed trade `u`: `Trade`, timestamp, id, quantity, price (0 if none), value,
+-- `held`, the holding after it, and the code of its type. A sale's quantity and value are negated.
 unfoldable pub holding_trade_line : TradeRow → ℤ → Text
 holding_trade_line u held =
     leading_row_columns (codes "Trade") (timestamp_text u.stamp) u.id (signed_quantity_of_trade u) (completion_price_or_zero u)
@@ -42,36 +40,31 @@ holding_trade_line u held =
 abbrev pub lot_columns_header : Text
 lot_columns_header = codes "#      opened or changed               trade      shares      price     cost or gain        left"
 
--- The line of the opening of `lot`: the word `Lot`, the timestamp and the id of the trade that
--- opened it, the opened quantity, the price, and the quantity times the price.
+-- The line of the opening of `lot`: `Lot`, timestamp and trade, quantity, price and their product.
 unfoldable pub lot_opening_line : LotDetails → Text
 lot_opening_line lot =
     leading_row_columns (codes "Lot") (timestamp_text lot.trade.stamp) lot.trade.id lot.opened (completion_price_or_zero lot.trade)
     ++ value_column (lot.opened *ℤ pos (completion_price_or_zero lot.trade))
 
--- The line of the change `c` of a lot that was opened at `price`, which is given in cents: the word
--- `Change`, the timestamp and the id of the trade that changed it, the change of the quantity, the
--- price of that trade, the realised gain, and the quantity of the lot after the change.
+-- The line of the change `c` of a lot that was opened at `price` cents: `Change`, timestamp and id
+-- of the changing trade, change of quantity, price of that trade, realised gain, and new quantity.
 unfoldable pub lot_change_line : ℕ → LotChange → Text
 lot_change_line price c =
     leading_row_columns (codes "Change") (timestamp_text c.stamp) c.trade (c.after -ℤ c.before) c.price ++ value_column (realised_gain_of_change price c)
     ++ shares_column c.after
 
--- The line of the remaining shares of `lot`: the word `Left`, a blank timestamp, the id of the
--- trade that opened it, the remaining quantity, which is 0 if the lot is closed, the opening price,
--- and their product, the cost basis.
+-- The line of the remaining shares of `lot`: `Left`, a blank timestamp, the opening trade, the
+-- remaining quantity (0 if closed), the opening price, and the cost basis, their product.
 unfoldable pub lot_remainder_line : LotDetails → Text
 lot_remainder_line lot =
     leading_row_columns (codes "Left") blank_timestamp_text lot.trade.id (remaining_quantity lot) (completion_price_or_zero lot.trade)
     ++ value_column (remaining_cost_of_lot lot)
 
--- A line for each of the `changes` of a lot that was opened at `price`, which is given in cents, by
--- trades other than the trade that opened it.
+-- A line for each of the `changes`, by other trades, of a lot that was opened at `price` cents.
 abbrev pub lot_change_lines : ℕ → List LotChange → List Text
 lot_change_lines price changes = map (lot_change_line price) changes
 
--- The lines of `lot`: its opening, each change by another trade, and its remaining shares, even if
--- none remain.
+-- The lines of `lot`: its opening, each change by another trade, and what remains, even if nothing.
 unfoldable pub lot_history_lines : LotDetails → List Text
 lot_history_lines lot = lot_opening_line lot ∷ lot_change_lines (completion_price_or_zero lot.trade) lot.changes ++ lot_remainder_line lot ∷ []
 
@@ -82,9 +75,8 @@ purchase_sale_gain_and_cost_lines bought sold gain cost =
     labeled_amount (codes "Purchases") bought ∷ labeled_amount (codes "Sales") sold ∷ labeled_amount (codes "Realised gain") gain
     ∷ labeled_amount (codes "Cost basis") cost ∷ []
 
--- The lines of the quantity `shares` of a holding, of the last price `price`, of the market value,
--- which is `shares` times `price`, and of the unrealised gain, which is the market value minus the
--- cost basis `cost`. `price` and `cost` are given in cents.
+-- The lines of the quantity `shares` of a holding, the last price `price`, the market value (their
+-- product), and the unrealised gain (the market value minus the cost basis `cost`), in cents.
 unfoldable pub holding_value_lines : ℤ → ℕ → ℤ → List Text
 holding_value_lines shares price cost =
     labeled_value (codes "Shares") (signed_decimal shares)
@@ -93,17 +85,15 @@ holding_value_lines shares price cost =
     ∷ labeled_amount (codes "Unrealised gain") (shares *ℤ pos price -ℤ cost)
     ∷ []
 
--- The last line of the explanation of a holding: the numbers of its completed trades, of its lots,
--- of its lots that are not fully closed, and of the changes of its lots by other trades than those
--- that opened them.
+-- The last line of the explanation of a holding: the numbers of completed trades, of lots, of lots
+-- not fully closed, and of lot changes by other trades than those that opened them.
 abbrev pub holding_counts_line : ℕ → ℕ → ℕ → ℕ → Text
 holding_counts_line trades lots open_count changes =
     codes "Trades " ++ decimal trades ++ codes ", lots " ++ decimal lots ++ codes ", open lots " ++ decimal open_count ++ codes ", changes " ++ decimal changes
 
--- The last lines of the explanation of a holding, from its completed trades `done`, its `lots`, its
--- quantity `shares` and the last price `price`, which is given in cents: the total purchases, the
--- total sales, negated, the realised gain, the cost basis, the shares, the last price, the market
--- value, the unrealised gain, and the counts.
+-- The last lines of the explanation of a holding, from its completed trades `done`, `lots`,
+-- quantity `shares` and last price `price` in cents: purchases, negated sales, realised gain, cost
+-- basis, shares, last price, market value, unrealised gain, and counts.
 unfoldable pub holding_total_lines : List TradeRow → List LotDetails → ℤ → ℕ → List Text
 holding_total_lines done lots shares price =
     purchase_sale_gain_and_cost_lines (total_purchase_value done) (negated_total_sale_value done) (realised_gain_of_lots lots) (remaining_cost_of_lots lots)
@@ -115,18 +105,16 @@ holding_total_lines done lots shares price =
 abbrev pub holding_trade_lines : List TradeRow → List Text
 holding_trade_lines done = lines_with_running_total signed_quantity_of_trade holding_trade_line (pos 0) done
 
--- All lines of the explanation of the holding of the account `a` in the security `s`: the first
--- lines, a line for each of its completed trades `done`, the column headings of the lots, the lines
--- of its `lots`, and the last lines, from its quantity `shares` and the last price `price`, which
--- is given in cents.
+-- The explanation of the holding of the account `a` in the security `s`: first lines, completed
+-- trades `done`, headings of the lots, `lots`, and last lines, from its quantity `shares` and the
+-- last price `price`, in cents.
 unfoldable pub holding_lines_from_trades_and_lots : AccountRow → SecurityRow → List TradeRow → List LotDetails → ℤ → ℕ → List Text
 holding_lines_from_trades_and_lots a s done lots shares price =
     holding_header_lines a s ++ holding_trade_lines done ++ lot_columns_header ∷ flat_map lot_history_lines lots ++ holding_total_lines done lots shares price
 
--- All lines of the explanation of the holding of the account `a` in the security `s`: the first
--- lines, its completed trades, the column headings of the lots, its lots with their changes, and
--- the last lines. Trades, lots and changes are each sorted by stamp, ascending. The quantity is
--- read from HOLDING_SUMMARY, and it and the last price are 0 if they have no row.
+-- The explanation of the holding of `a` in `s`: first lines, completed trades, headings of the
+-- lots, lots with their changes, last lines; trades, lots and changes are sorted by stamp,
+-- ascending. The quantity (of HOLDING_SUMMARY) and the last price are 0 without a row.
 unfoldable pub holding_explanation_lines : Tables → AccountRow → SecurityRow → List Text
 holding_explanation_lines tables a s =
     holding_lines_from_trades_and_lots a s (completed_trades_in_symbol tables a.id s.symbol) (lots_opened_in_symbol tables a.id s.symbol)

@@ -1,5 +1,4 @@
--- The facts that the explanation of a holding reads from the tables, and the amounts that follow
--- from them.
+-- The facts that the explanation of a holding reads from the tables, and the amounts from them.
 use Rattle.std.specs.Prelude.{ℕ, Bool, not, ◌&&◌, ◌==◌, List, map, filter, find, flat_map, length, None, is_some, unwrap_or, ℤ, pos, ◌-ℤ◌, ◌*ℤ◌, int_lt}
 use Rattle.std.specs.Prelude.{bytes_eq}
 use Rattle.std.specs.List.{last_or}
@@ -20,14 +19,12 @@ completed_trades_in_symbol tables account symbol =
 abbrev pub signed_quantity_of_trade : TradeRow → ℤ
 signed_quantity_of_trade u = signed_by_side (side_of_trade_type u.kind) u.qty
 
--- The quantity of the trade `u` times its completion price, in cents, negated if the trade is a
--- sale; 0 if it has no completion price.
+-- The quantity of `u` times its completion price (0 if none), in cents, negated for a sale.
 abbrev pub signed_value_of_trade : TradeRow → ℤ
 signed_value_of_trade u = signed_quantity_of_trade u *ℤ pos (completion_price_or_zero u)
 
--- A change of a lot by another trade than the one that opened it: the id, the stamp and the price,
--- in cents, of the trade that changed the lot, and the lot's quantity before and after the change,
--- below 0 if it was sold short.
+-- A change of a lot by another trade than the one that opened it: id, stamp and price, in cents, of
+-- that trade, and the lot's quantity before and after the change, below 0 if it was sold short.
 pub record LotChange : Type 0 where
   pub trade : ℕ
   pub stamp : ℕ
@@ -35,9 +32,8 @@ pub record LotChange : Type 0 where
   pub before : ℤ
   pub after : ℤ
 
--- The change of a lot that the HOLDING_HISTORY row `row` records, with the stamp and the price of
--- the trade that changed the lot; both are 0 if this trade does not exist, and the price is 0 if it
--- has none.
+-- The change of a lot that the row `row` records, with the stamp and the price of the changing
+-- trade; both are 0 if this trade does not exist, and the price is 0 if it has none.
 abbrev pub recorded_lot_change : Tables → HoldingHistoryRow → LotChange
 recorded_lot_change tables row = record {
   trade = row.trade;
@@ -47,20 +43,17 @@ recorded_lot_change tables row = record {
   after = row.after;
 }
 
--- True if the HOLDING_HISTORY row `row` records a change, by another trade, of the lot that the
--- trade with the id `lot` opened.
+-- True if `row` records a change, by another trade, of the lot that the trade `lot` opened.
 abbrev pub is_change_of_lot_by_other_trade : ℕ → HoldingHistoryRow → Bool
 is_change_of_lot_by_other_trade lot row = (row.lot == lot) && not (row.trade == lot)
 
--- The changes, by other trades, of the lot that the trade with the id `lot` opened, sorted by the
--- stamps of these other trades, ascending.
+-- The changes, by other trades, of the lot of the trade `lot`, sorted by their stamps, ascending.
 abbrev pub changes_of_lot_by_other_trades : Tables → ℕ → List LotChange
 changes_of_lot_by_other_trades tables lot =
     sort_by_key (λ c. c.stamp) (map (recorded_lot_change tables) (filter (is_change_of_lot_by_other_trade lot) tables.holding_history))
 
--- The realised gain, in cents, of the change `c` of a lot that was opened at `price`, also given in
--- cents: the product of the quantity before minus the quantity after the change, and of the price
--- of `c` minus `price`. The first factor is below 0 if `c` closes shares that were sold short.
+-- The realised gain, in cents, of the change `c` of a lot opened at `price` cents: its decrease of
+-- the quantity, below 0 if it closes shares that were sold short, times its price less `price`.
 abbrev pub realised_gain_of_change : ℕ → LotChange → ℤ
 realised_gain_of_change price c = (c.before -ℤ c.after) *ℤ (pos c.price -ℤ pos price)
 
@@ -71,8 +64,7 @@ pub record LotDetails : Type 0 where
   pub opened : ℤ
   pub changes : List LotChange
 
--- The quantity of the lot that the trade with the id `trade` opened, below 0 if it sold short; 0 if
--- it opened no lot.
+-- The quantity of the lot that the trade `trade` opened, below 0 if it sold short; 0 without a lot.
 abbrev pub quantity_opened_by_trade : Tables → ℕ → ℤ
 quantity_opened_by_trade tables trade = option_map_or (λ row. row.after) (opened_lot_row tables trade) (pos 0)
 
@@ -81,19 +73,16 @@ quantity_opened_by_trade tables trade = option_map_or (λ row. row.after) (opene
 abbrev pub lot_with_changes_by_others : Tables → TradeRow → LotDetails
 lot_with_changes_by_others tables u = record { trade = u; opened = quantity_opened_by_trade tables u.id; changes = changes_of_lot_by_other_trades tables u.id }
 
--- The lots that the completed trades of `account` in `symbol` opened, sorted by the stamp of
--- completion, ascending.
+-- The lots that completed trades of `account` in `symbol` opened, by completion stamp, ascending.
 abbrev pub lots_opened_in_symbol : Tables → ℕ → Text → List LotDetails
 lots_opened_in_symbol tables account symbol =
     map (lot_with_changes_by_others tables) (filter (λ u. is_some (opened_lot_row tables u.id)) (completed_trades_in_symbol tables account symbol))
 
--- The remaining quantity of `lot`, below 0 if it was sold short: its quantity after the last of
--- `lot.changes`, or the opened quantity if there is no change.
+-- The quantity of `lot` after the last of `lot.changes`, or as opened; below 0 if sold short.
 abbrev pub remaining_quantity : LotDetails → ℤ
 remaining_quantity lot = unwrap_or (last_or None (map (λ c. c.after) lot.changes)) lot.opened
 
--- The cost basis of the remaining shares of `lot`, in cents: their quantity times the price at
--- which they were opened, never above 0 if they were sold short.
+-- The cost basis of `lot`, in cents: its signed remaining quantity times its opening price.
 abbrev pub remaining_cost_of_lot : LotDetails → ℤ
 remaining_cost_of_lot lot = remaining_quantity lot *ℤ pos (completion_price_or_zero lot.trade)
 
@@ -105,13 +94,11 @@ realised_gain_of_lot lot = total_by (realised_gain_of_change (completion_price_o
 abbrev pub realised_gain_of_lots : List LotDetails → ℤ
 realised_gain_of_lots lots = total_by realised_gain_of_lot lots
 
--- The sum of the realised gains of all lots that completed trades of `account` opened in `symbol`,
--- in cents.
+-- The realised gain, in cents, of all lots that completed trades of `account` opened in `symbol`.
 abbrev pub realised_gain_in_symbol : Tables → ℕ → Text → ℤ
 realised_gain_in_symbol tables account symbol = realised_gain_of_lots (lots_opened_in_symbol tables account symbol)
 
--- The cost basis of the remaining shares of `lots`, in cents: the sum of their quantities times
--- their opening prices, never above 0 for shares that were sold short.
+-- The cost basis of the remaining shares of `lots`, in cents: the sum of `remaining_cost_of_lot`.
 abbrev pub remaining_cost_of_lots : List LotDetails → ℤ
 remaining_cost_of_lots lots = total_by remaining_cost_of_lot lots
 
@@ -131,8 +118,7 @@ total_purchase_value done = total_by signed_value_of_trade (filter (λ u. int_lt
 abbrev pub negated_total_sale_value : List TradeRow → ℤ
 negated_total_sale_value done = total_by signed_value_of_trade (filter (λ u. int_lt (signed_value_of_trade u) (pos 0)) done)
 
--- The net quantity of `account` in `symbol`, in shares, that HOLDING_SUMMARY records, below 0 if
--- they were sold short; 0 if there is no such row.
+-- The net shares of `account` in `symbol` by HOLDING_SUMMARY, below 0 if sold short; 0 if no row.
 abbrev pub summary_quantity_in_symbol : Tables → ℕ → Text → ℤ
 summary_quantity_in_symbol tables account symbol =
     option_map_or (λ row. row.qty) (find (λ row. (row.account == account) && bytes_eq row.symbol symbol) tables.summaries) (pos 0)

@@ -28,19 +28,16 @@ labeled_text label text = left_aligned_text 15 label ++ 32 ∷ text
 unfoldable pub labeled_value : Text → Text → Text
 labeled_value label value = left_aligned_text 15 label ++ 32 ∷ right_aligned_text 22 value
 
--- The line of `label`, left-aligned in 15 places, a space, and the number `n`, right-aligned in 22
--- places.
+-- The line of `label`, left-aligned in 15 places, a space, and `n`, right-aligned in 22 places.
 unfoldable pub labeled_number : Text → ℕ → Text
 labeled_number label n = labeled_value label (decimal n)
 
--- The line of `label`, left-aligned in 15 places, a space, and `amount`, an amount in cents,
--- right-aligned in 22 places.
+-- The line of `label`, left-aligned in 15 places, a space, and `amount` cents, right-aligned in 22.
 unfoldable pub labeled_amount : Text → ℤ → Text
 labeled_amount label amount = labeled_value label (cents_text amount)
 
--- The first columns of a row about a trade or a lot, separated by spaces: `word`, left-aligned in 6
--- places, `moment`, the text of a timestamp or a blank one, and, right-aligned, `id` in 13,
--- `shares` in 11, and `price`, which is given in cents, in 10 places.
+-- The first columns of a row, separated by spaces: `word`, left-aligned in 6 places, `moment`, a
+-- timestamp's text or blank, and, right-aligned, `id` in 13, `shares` in 11, `price` (cents) in 10.
 unfoldable pub leading_row_columns : Text → Text → ℕ → ℤ → ℕ → Text
 leading_row_columns word moment id shares price =
     left_aligned_text 6 word ++ 32 ∷ moment ++ 32 ∷ right_aligned_text 13 (decimal id) ++ 32 ∷ right_aligned_text 11 (signed_decimal shares) ++ 32

@@ -22,13 +22,11 @@ use Rattle.brk_model_explain.specs.Trades.{shares_of_closing, total_closed_share
 
 -- ---- the order
 
--- The text for the order in which a trade closes lots: `last in first out` if `is_lifo`, otherwise
--- `first in first out`.
+-- The order in which lots are closed: `last in first out` if `is_lifo`, or `first in first out`.
 abbrev pub closing_order_text : Bool → Text
 closing_order_text is_lifo = if is_lifo then codes "last in first out" else codes "first in first out"
 
--- The line of the status change `row`: the word `Status`, its timestamp, and the code and the name
--- of the status.
+-- The line of the status change `row`: `Status`, timestamp, code and name of the status.
 unfoldable pub status_change_line : HistoryRow → Text
 status_change_line row =
     left_aligned_text 6 (codes "Status") ++ 32 ∷ timestamp_text row.stamp ++ 32 ∷ trade_status_code row.status ++ 32 ∷ trade_status_name row.status
@@ -77,21 +75,18 @@ order_and_status_lines o = title_and_party_lines o ++ order_terms_lines o ++ map
 
 -- ---- a trade that is not completed
 
--- The remark after the charge of a trade that is not completed: `never charged` if it is canceled,
--- otherwise `if completed`.
+-- The remark after an uncompleted trade's charge: `never charged` if canceled, or `if completed`.
 abbrev pub charge_remark : Status → Text
 charge_remark Canceled = codes "never charged"
 charge_remark _ = codes "if completed"
 
--- The remark after the commission of a trade that is not completed: `never charged` if it is
--- canceled, otherwise `estimated`.
+-- The remark after an uncompleted trade's commission: `never charged` if canceled, or `estimated`.
 abbrev pub commission_remark : Status → Text
 commission_remark Canceled = codes "never charged"
 commission_remark _ = codes "estimated"
 
--- The text of the event that a pending trade waits for, by its type: a tick at or below `price` for
--- a stop loss or a limit buy, a tick at or above `price` for a limit sell, and a cancel for a
--- market type. `price` is given in cents.
+-- The text of what a pending trade waits for, by its type: a tick at or below `price` cents for
+-- stop loss and limit buy, at or above it for limit sell, a cancel for a market type.
 abbrev pub trigger_condition_text : TradeType → ℕ → Text
 trigger_condition_text StopLoss price = codes "a tick at or below " ++ nonnegative_cents_text price
 trigger_condition_text LimitBuy price = codes "a tick at or below " ++ nonnegative_cents_text price
@@ -99,17 +94,15 @@ trigger_condition_text LimitSell price = codes "a tick at or above " ++ nonnegat
 trigger_condition_text MarketBuy price = codes "a cancel"
 trigger_condition_text MarketSell price = codes "a cancel"
 
--- The text of the event that a trade waits for, by its status: if it is pending, the tick at which
--- it is submitted (`a cancel` for a market type); if it is submitted, `a result`; and otherwise
--- `nothing`. `price` is given in cents.
+-- The text of what a trade waits for, by its status: `trigger_condition_text` at `price` cents if
+-- pending, `a result` if submitted, otherwise `nothing`.
 abbrev pub awaited_event_text : Status → TradeType → ℕ → Text
 awaited_event_text Pending kind price = trigger_condition_text kind price
 awaited_event_text Submitted kind price = codes "a result"
 awaited_event_text _ kind price = codes "nothing"
 
--- The lines after the status changes of a trade that is not completed: its charge and its
--- commission with their remarks, the event that it waits for, 0 shares and 0.00 of cash moved, and
--- the number of its statuses.
+-- The lines after the status changes of an uncompleted trade: charge and commission with remarks,
+-- the event that it waits for, 0 shares and 0.00 of cash moved, and the number of its statuses.
 unfoldable pub uncompleted_trade_lines : OrderDetails → List Text
 uncompleted_trade_lines o =
     (labeled_amount (codes "Charge") (pos o.trade.charge) ++ 32 ∷ charge_remark o.trade.status)
@@ -122,30 +115,26 @@ uncompleted_trade_lines o =
 
 -- ---- a completed trade
 
--- The line of the closing `c` by a trade on `side` at `price`, which is given in cents: the word
--- `Closed`, the timestamp and the id of the trade that opened the lot, the number of closed shares,
--- the lot's price, the buy value and the sell value of these shares, and the lot's quantity after
--- the closing.
+-- The line of the closing `c` by a trade on `side` at `price` cents: `Closed`, timestamp and id of
+-- the opening trade, number of closed shares, the lot's price, buy and sell value of these shares,
+-- and the lot's quantity after the closing.
 unfoldable pub lot_closing_line : Side → ℕ → Closing → Text
 lot_closing_line side price c =
     leading_row_columns (codes "Closed") (timestamp_text c.stamp) c.lot (pos (shares_of_closing c)) c.price
     ++ value_column (pos (buy_value_of_closing side price c))
     ++ value_column (pos (sell_value_of_closing side price c)) ++ shares_column c.after
 
--- The line of the lot that the trade `u` opened at `price`, which is given in cents: the word
--- `Opened`, the timestamp and the id of the trade, the quantity of the lot that `row` records,
--- below 0 if it was sold short, and the price.
+-- The line of the lot that the trade `u` opened at `price` cents: `Opened`, timestamp and id of the
+-- trade, the quantity of the lot that `row` records, below 0 if it was sold short, and the price.
 unfoldable pub opened_lot_line : TradeRow → ℕ → HoldingHistoryRow → Text
 opened_lot_line u price row = leading_row_columns (codes "Opened") (timestamp_text u.stamp) u.id row.after price
 
--- The line of the lot that the trade `u` opened at `price`, which is given in cents, as a list of
--- one, or the empty list if the trade opened no lot.
+-- The line of the lot that the trade `u` opened at `price` cents, as a list; empty without a lot.
 unfoldable pub opened_lot_lines : TradeRow → ℕ → Option HoldingHistoryRow → List Text
 opened_lot_lines u price None = []
 opened_lot_lines u price (Some row) = opened_lot_line u price row ∷ []
 
--- The line of the price of the completed trade, and the column headings of the lots that it closed
--- or opened.
+-- The line of the completion price, and the column headings of the closed and opened lots.
 unfoldable pub price_and_lot_header_lines : ResultDetails → List Text
 price_and_lot_header_lines r =
     labeled_amount (codes "Price") (pos r.price)
@@ -169,14 +158,12 @@ realised_gain_lines o r =
     ∷ labeled_amount (codes "Realised gain") (gain_of_closings (side_of_trade_type o.trade.kind) r.price r.closings)
     ∷ []
 
--- The lines of the price, of the lots that the trade closed and opened, of the numbers of shares,
--- and of the realised gain.
+-- The lines of the price, of closed and opened lots, of the share counts, and of the realised gain.
 unfoldable pub lot_and_gain_lines : OrderDetails → ResultDetails → List Text
 lot_and_gain_lines o r =
     price_and_lot_header_lines r ++ lot_closing_lines o r ++ opened_lot_lines o.trade r.price r.own_lot ++ share_count_lines r ++ realised_gain_lines o r
 
--- The line of the tax rate `rate`: the word `Rate`, its id, the rate in hundred-thousandths, and
--- its name.
+-- The line of the tax rate `rate`: `Rate`, its id, the rate in hundred-thousandths, and its name.
 unfoldable pub tax_rate_line : TaxRate → Text
 tax_rate_line rate =
     left_aligned_text 6 (codes "Rate") ++ 32 ∷ right_aligned_text 13 (decimal rate.id) ++ 32 ∷ right_aligned_text 11 (decimal rate.rate) ++ 32 ∷ rate.name
@@ -186,8 +173,7 @@ unfoldable pub account_tax_status_lines : OrderDetails → List Text
 account_tax_status_lines o = labeled_number (codes "Tax status") (tax_status_number o.tax_status) ∷ []
 
 -- The lines of the sum of the customer's current tax rates, of the tax on the realised gain at this
--- sum (0 if the account is not taxable or the gain is negative), and of the tax that the trade
--- records.
+-- sum (0 if the account is not taxable or the gain is negative), and of the recorded tax.
 unfoldable pub current_and_recorded_tax_lines : OrderDetails → ResultDetails → List Text
 current_and_recorded_tax_lines o r =
     (labeled_number (codes "Rates now") (sum_of_tax_rates r.rates) ++ codes " of 100000")
@@ -195,8 +181,7 @@ current_and_recorded_tax_lines o r =
     ∷ labeled_amount (codes "Tax recorded") (pos o.trade.tax)
     ∷ []
 
--- The lines of the tax status, of each current tax rate of the customer, and of the current and the
--- recorded tax.
+-- The lines of the tax status, of each current tax rate, and of the current and the recorded tax.
 unfoldable pub trade_tax_lines : OrderDetails → ResultDetails → List Text
 trade_tax_lines o r = account_tax_status_lines o ++ map tax_rate_line r.rates ++ current_and_recorded_tax_lines o r
 
@@ -209,14 +194,12 @@ band_unit_and_bounds_text b = codes " of 10000 for " ++ decimal b.from_qty ++ co
 unfoldable pub band_tier_and_exchange_text : Band → Text
 band_tier_and_exchange_text b = codes ", tier " ++ decimal b.tier ++ codes ", " ++ b.exchange
 
--- The line of the current commission band: its rate in ten-thousandths, its least and greatest
--- quantity, its tier and its exchange, or `none` if there is no band.
+-- The line of the current band: rate in ten-thousandths, quantities, tier and exchange, or `none`.
 unfoldable pub commission_band_line : Option Band → Text
 commission_band_line None = labeled_value (codes "Band now") (codes "none")
 commission_band_line (Some b) = labeled_number (codes "Band now") b.rate ++ band_unit_and_bounds_text b ++ band_tier_and_exchange_text b
 
--- The line of a trade's commission at the rate of the current commission band, from its amount in
--- cents, or with `none` if there is no such commission.
+-- The line of the commission, `amount` cents at the rate of the current band, or `none`.
 unfoldable pub current_commission_line : Option ℕ → Text
 current_commission_line None = labeled_value (codes "Commission now") (codes "none")
 current_commission_line (Some amount) = labeled_amount (codes "Commission now") (pos amount)
@@ -237,9 +220,8 @@ trade_settlement_lines o r =
     ∷ labeled_text (codes "Cash type") r.settlement.cash_type
     ∷ []
 
--- The lines of the UTC day of completion, of the current first day of one-day settlement (`none` if
--- it is not set), of the number of days from completion to settlement that follows from these two
--- days, and of the recorded due day.
+-- The lines of the UTC day of completion, of the current first day of one-day settlement (or
+-- `none`), of the days to settlement that follow from these two, and of the recorded due day.
 unfoldable pub due_day_lines : OrderDetails → ResultDetails → List Text
 due_day_lines o r =
     labeled_text (codes "Completed on") (day_text (day_of o.trade.stamp))
@@ -248,15 +230,13 @@ due_day_lines o r =
     ∷ labeled_text (codes "Due on") (day_text r.settlement.due_day)
     ∷ []
 
--- The line of the cash row of the trade: its id and its name, or `none` if the trade has no cash
--- row.
+-- The line of the cash row of the trade: its id and its name, or `none` if it has no cash row.
 unfoldable pub trade_cash_row_line : Option CashRow → Text
 trade_cash_row_line None = labeled_value (codes "Cash row") (codes "none")
 trade_cash_row_line (Some row) = labeled_number (codes "Cash row") row.id ++ 32 ∷ row.name
 
--- The lines of the trade's cash row, of the account's opening balance, of the sum of the account's
--- cash rows before the completion of the trade, of the balance before the completion, of the amount
--- of the trade's cash row (0 if it has none), and of the balance after the completion.
+-- The lines of the trade's cash row, of the account's opening balance, the sum of its earlier cash
+-- rows and its balance before, of the trade's cash amount (0 if none), and of the balance after.
 unfoldable pub trade_balance_lines : OrderDetails → ResultDetails → List Text
 trade_balance_lines o r =
     trade_cash_row_line r.cash
@@ -267,16 +247,13 @@ trade_balance_lines o r =
     ∷ labeled_amount (codes "Balance after") (balance_after_trade o r)
     ∷ []
 
--- The last line of the explanation of a completed trade, with the numbers of its status changes
--- (`statuses`), of the lots of which it closed shares (`lots`), and of the cash rows of its account
--- before its completion (`cash`).
+-- The last line for a completed trade: the numbers of its status changes (`statuses`), of lots that
+-- it closed (`lots`), and of its account's cash rows before its completion (`cash`).
 abbrev pub counts_line_of_trade : ℕ → ℕ → ℕ → Text
 counts_line_of_trade statuses lots cash =
     codes "Statuses " ++ decimal statuses ++ codes ", lots closed " ++ decimal lots ++ codes ", cash rows before " ++ decimal cash
 
--- The last line of the explanation of a completed trade, as a list of one: the numbers of its
--- status changes, of the lots of which it closed shares, and of the account's cash rows before its
--- completion.
+-- The `counts_line_of_trade` of a completed trade, as a list of one.
 unfoldable pub counts_lines_of_trade : OrderDetails → ResultDetails → List Text
 counts_lines_of_trade o r = counts_line_of_trade (length o.statuses) (length r.closings) r.cash_rows ∷ []
 
@@ -287,13 +264,11 @@ completed_trade_lines o r =
     lot_and_gain_lines o r ++ trade_tax_lines o r ++ band_and_commission_lines o r ++ trade_settlement_lines o r ++ due_day_lines o r ++ trade_balance_lines o r
     ++ counts_lines_of_trade o r
 
--- The lines after the status changes of a trade: `completed_trade_lines` if it has results,
--- otherwise `uncompleted_trade_lines`.
+-- The `completed_trade_lines` if the trade has results, otherwise the `uncompleted_trade_lines`.
 unfoldable pub lines_after_statuses : OrderDetails → Option ResultDetails → List Text
 lines_after_statuses o None = uncompleted_trade_lines o
 lines_after_statuses o (Some r) = completed_trade_lines o r
 
--- All lines of the explanation of a trade: its order and its status changes, followed by the lines
--- after the status changes.
+-- The explanation of a trade: order, status changes, and the lines after the status changes.
 unfoldable pub trade_explanation_lines : TradeDetails → List Text
 trade_explanation_lines details = order_and_status_lines details.order ++ lines_after_statuses details.order details.result

@@ -23,9 +23,8 @@ use Rattle.brk_model.specs.Statement.{sorted_cash_rows_of_account, cash_row_tota
 
 -- ---- facts
 
--- A trade (its TRADE row), with the name, the customer, the broker, the tax status and the opening
--- balance, in cents, of its account, the name of its security, and its status changes, the oldest
--- first.
+-- A trade (its TRADE row), with name, customer, broker, tax status and opening balance, in cents,
+-- of its account, the name of its security, and its status changes, the oldest first.
 pub record OrderDetails : Type 0 where
   pub trade : TradeRow
   pub account_name : Text
@@ -36,9 +35,8 @@ pub record OrderDetails : Type 0 where
   pub security_name : Text
   pub statuses : List HistoryRow
 
--- A lot of which a trade closed shares: the id of the trade that opened the lot (`lot`), with its
--- stamp and its price, in cents, and the lot's quantity before and after the closing, below 0 if it
--- was sold short.
+-- A lot of which a trade closed shares: id (`lot`), stamp and price, in cents, of the trade that
+-- opened it, and its quantity before and after the closing, below 0 if it was sold short.
 pub record Closing : Type 0 where
   pub lot : ℕ
   pub stamp : ℕ
@@ -46,11 +44,10 @@ pub record Closing : Type 0 where
   pub before : ℤ
   pub after : ℤ
 
--- The results of a completed trade: its price, in cents; its closings, in the order of closing; the
--- HOLDING_HISTORY row of the lot that it opened, if any; the current tax rates of its customer and
--- its current commission band, if any; its settlement; its cash row, if any; the sum, in cents, and
--- the number of the account's cash rows before its completion; and the current first day of one-day
--- settlement, if one is set (`rule`).
+-- The results of a completed trade: price, in cents; closings, in the order of closing;
+-- HOLDING_HISTORY row of the lot that it opened, if any; current tax rates of its customer and
+-- commission band, if any; settlement; cash row, if any; sum, in cents, and number of the account's
+-- earlier cash rows; and the current first day of one-day settlement, if set (`rule`).
 pub record ResultDetails : Type 0 where
   pub price : ℕ
   pub closings : List Closing
@@ -63,8 +60,7 @@ pub record ResultDetails : Type 0 where
   pub cash_rows : ℕ
   pub rule : SettleRule
 
--- The facts that the explanation of a trade reads: the trade with the facts of its account and its
--- security (`order`), and its results if it is completed (`result`).
+-- The facts that the explanation of a trade reads: its order, and its results if it is completed.
 pub record TradeDetails : Type 0 where
   pub order : OrderDetails
   pub result : Option ResultDetails
@@ -81,9 +77,8 @@ has_completed_status u = is_same_trade_status u.status Completed
 abbrev pub sorted_statuses_of_trade : Tables → ℕ → List HistoryRow
 sorted_statuses_of_trade tables trade = sort_by (λ a b. nat_lt a.stamp b.stamp) (history_rows_with_trade_id tables trade)
 
--- The trade `u` with the facts of its account and its security in `tables`, and its status changes,
--- the oldest first. If the account does not exist, its name is empty, its numbers are 0 and its tax
--- status is `Untaxed`; if the security does not exist, its name is empty.
+-- The trade `u` with the facts of its account (empty, 0 and `Untaxed` if it does not exist), the
+-- name of its security (empty if it does not exist), and its status changes, the oldest first.
 abbrev pub order_details_of_trade : Tables → TradeRow → OrderDetails
 order_details_of_trade tables u = record {
   trade = u;
@@ -96,13 +91,11 @@ order_details_of_trade tables u = record {
   statuses = sorted_statuses_of_trade tables u.id;
 }
 
--- The completion price, in cents, of the trade with the id `lot`; 0 if this trade does not exist or
--- has no price.
+-- The completion price, in cents, of the trade with the id `lot`; 0 without the trade or a price.
 abbrev pub trade_price_or_zero : Tables → ℕ → ℕ
 trade_price_or_zero tables lot = option_map_or completion_price_or_zero (trade_row_with_id tables lot) 0
 
--- The stamp of the last status change (T_DTS) of the trade with the id `lot`; 0 if this trade does
--- not exist.
+-- The last stamp (T_DTS) of the trade with the id `lot`; 0 if this trade does not exist.
 abbrev pub trade_stamp_or_zero : Tables → ℕ → ℕ
 trade_stamp_or_zero tables lot = option_map_or (λ t. t.stamp) (trade_row_with_id tables lot) 0
 
@@ -116,8 +109,7 @@ recorded_closing tables row =
 abbrev pub reversed_if_lifo : {X : Type 0} → Bool → List X → List X
 reversed_if_lifo is_lifo xs = if is_lifo then reverse xs else xs
 
--- True if the HOLDING_HISTORY row `row` records a change, by the trade with the id `trade`, of a
--- lot that another trade opened.
+-- True if `row` records a change, by the trade `trade`, of a lot that another trade opened.
 abbrev pub is_closing_by_trade : ℕ → HoldingHistoryRow → Bool
 is_closing_by_trade trade row = (row.trade == trade) && not (row.lot == trade)
 
@@ -127,8 +119,7 @@ abbrev pub closings_of_trade : Tables → TradeRow → List Closing
 closings_of_trade tables u =
     reversed_if_lifo u.is_lifo (sort_by_key (λ c. c.stamp) (map (recorded_closing tables) (filter (is_closing_by_trade u.id) tables.holding_history)))
 
--- The first HOLDING_HISTORY row that records the opening of a lot by the trade with the id `trade`;
--- none if there is no such row.
+-- The first HOLDING_HISTORY row of the opening of a lot by the trade `trade`, or none.
 abbrev pub opened_lot_row : Tables → ℕ → Option HoldingHistoryRow
 opened_lot_row tables trade = find (λ row. (row.trade == trade) && (row.lot == trade)) tables.holding_history
 
@@ -138,23 +129,20 @@ abbrev pub tax_rates_of_customer : Tables → ℕ → List TaxRate
 tax_rates_of_customer tables customer =
     flat_map (λ x. option_to_list (find (λ r. r.id == x.tax) tables.tax_rates)) (filter (λ x. x.customer == customer) tables.customer_taxes)
 
--- The first commission band, in the order of the table, of `tier`, of the type of the trade `u` and
--- of `exchange` whose bounds, both included, contain the quantity of the trade; none if there is no
--- such band.
+-- The first commission band of `tier`, of the type of `u` and of `exchange` whose bounds, both
+-- included, contain the quantity of the trade; none if there is no such band.
 abbrev pub band_for_tier_and_exchange : Tables → TradeRow → ℕ → Text → Option Band
 band_for_tier_and_exchange tables u tier exchange =
     find (λ b. (b.tier == tier) && is_same_trade_type b.kind u.kind && bytes_eq b.exchange exchange && nat_le b.from_qty u.qty
     && nat_le u.qty b.to_qty) tables.bands
 
--- The commission band of the trade `u` for the tier of a customer and the exchange of a security,
--- or none if the customer, the security or the band does not exist.
+-- The band of `u` for a customer's tier and a security's exchange; none if one is missing.
 abbrev pub band_for_customer_and_security : Tables → TradeRow → Option Customer → Option SecurityRow → Option Band
 band_for_customer_and_security tables u None security = None
 band_for_customer_and_security tables u (Some c) None = None
 band_for_customer_and_security tables u (Some c) (Some s) = band_for_tier_and_exchange tables u c.tier s.exchange
 
--- The commission band of the trade `u` for its customer and its security, or none if the customer,
--- the security or the band does not exist.
+-- The commission band of the trade `u`; none if its customer, its security or the band is missing.
 abbrev pub band_of_trade : Tables → TradeRow → Option Band
 band_of_trade tables u =
     band_for_customer_and_security tables u (find (λ c. c.id == (order_details_of_trade tables u).customer) tables.customers)
@@ -164,18 +152,15 @@ band_of_trade tables u =
 abbrev pub zero_settlement_row : SettlementRow
 zero_settlement_row = record { trade = 0; cash_type = []; due_day = 0; amount = pos 0 }
 
--- The first SETTLEMENT row of the trade with the id `trade`, or `zero_settlement_row` if there is
--- no such row.
+-- The first SETTLEMENT row of the trade with the id `trade`, or `zero_settlement_row`.
 abbrev pub settlement_of_trade_or_zeros : Tables → ℕ → SettlementRow
 settlement_of_trade_or_zeros tables trade = unwrap_or (find (λ s. s.trade == trade) tables.settlements) zero_settlement_row
 
--- The cash rows of the account of the completed trade `u` with stamps before its completion
--- (T_DTS), sorted by stamp, ascending.
+-- The cash rows of the account of `u` with stamps before its completion (T_DTS), stamps ascending.
 abbrev pub cash_rows_before_completion : Tables → TradeRow → List CashRow
 cash_rows_before_completion tables u = filter (λ row. nat_lt row.stamp u.stamp) (sorted_cash_rows_of_account tables u.account)
 
--- The results of the completed trade `u`, read from `tables`. The price is 0 if the trade has none,
--- and the settlement is `zero_settlement_row` if the trade has none.
+-- The results of the completed trade `u`; price 0 and `zero_settlement_row` if these do not exist.
 abbrev pub result_details_of_trade : Tables → TradeRow → ResultDetails
 result_details_of_trade tables u = record {
   price = completion_price_or_zero u;
@@ -190,8 +175,7 @@ result_details_of_trade tables u = record {
   rule = tables.rule;
 }
 
--- The facts that the explanation of the trade `u` reads from `tables`: the trade with the facts of
--- its account and its security, and its results if it is completed.
+-- The facts that the explanation of `u` reads: its order, and its results if it is completed.
 unfoldable pub details_of_trade : Tables → TradeRow → TradeDetails
 details_of_trade tables u =
     record { order = order_details_of_trade tables u; result = if has_completed_status u then Some (result_details_of_trade tables u) else None }
@@ -226,8 +210,7 @@ buy_value_of_closings side price closings = sum_by (buy_value_of_closing side pr
 abbrev pub sell_value_of_closings : Side → ℕ → List Closing → ℕ
 sell_value_of_closings side price closings = sum_by (sell_value_of_closing side price) closings
 
--- The realised gain of `closings` by a trade on `side` at `price`, in cents: the sum of their sell
--- values minus the sum of their buy values.
+-- The realised gain of `closings`, in cents: the sum of sell values minus the sum of buy values.
 abbrev pub gain_of_closings : Side → ℕ → List Closing → ℤ
 gain_of_closings side price closings = pos (sell_value_of_closings side price closings) -ℤ pos (buy_value_of_closings side price closings)
 
@@ -247,18 +230,15 @@ tax_at_current_rates o r =
     then tax (gain_of_closings (side_of_trade_type o.trade.kind) r.price r.closings) (sum_of_tax_rates r.rates)
     else 0
 
--- The commission of the trade, in whole cents, rounded half up, at the rate of its current
--- commission band; none if there is no such band.
+-- The commission, in whole cents, rounded half up, at the rate of the current band, or none.
 abbrev pub current_commission : OrderDetails → ResultDetails → Option ℕ
 current_commission o r = option_map (λ b. commission b.rate o.trade.qty r.price) r.band
 
--- The proceeds of the trade, in cents: its quantity times its completion price, negated if it is a
--- purchase.
+-- The proceeds of the trade, in cents: quantity times completion price, negated for a purchase.
 abbrev pub signed_trade_value : OrderDetails → ResultDetails → ℤ
 signed_trade_value o r = signed_proceeds (side_of_trade_type o.trade.kind) (o.trade.qty * r.price)
 
--- The recorded tax of the trade, in cents, if the tax status of its account is `Withheld`;
--- otherwise 0.
+-- The recorded tax, in cents, if the tax status of the account is `Withheld`; otherwise 0.
 abbrev pub withheld_tax_of_trade : OrderDetails → ℕ
 withheld_tax_of_trade o = if is_withholding_status o.tax_status then o.trade.tax else 0
 
@@ -266,13 +246,11 @@ withheld_tax_of_trade o = if is_withholding_status o.tax_status then o.trade.tax
 abbrev pub balance_change_of_trade : ResultDetails → ℤ
 balance_change_of_trade r = option_map_or (λ row. row.amount) r.cash (pos 0)
 
--- The balance before the completion of the trade, in cents: the opening balance plus the amounts of
--- the account's cash rows before the completion.
+-- The balance before the completion, in cents: the opening balance plus the earlier cash rows.
 abbrev pub balance_before_trade : OrderDetails → ResultDetails → ℤ
 balance_before_trade o r = o.opening +ℤ r.cash_before
 
--- The balance after the completion of the trade, in cents: the balance before it plus the amount of
--- the trade's cash row, if any.
+-- The balance after the completion, in cents: the balance before it plus the trade's cash row.
 abbrev pub balance_after_trade : OrderDetails → ResultDetails → ℤ
 balance_after_trade o r = balance_before_trade o r +ℤ balance_change_of_trade r
 

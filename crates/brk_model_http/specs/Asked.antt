@@ -1,5 +1,4 @@
--- The call of the desk that a request makes, or the response that it has without one because a
--- check fails.
+-- The call of the desk that a request makes, or the response without a call if a check fails.
 use Rattle.std.specs.Prelude.{List, map, Some, None, Ok, Err, not, if◌then◌else◌, codes, bytes_eq}
 use Rattle.brk_money.specs.Spelling.{Text}
 use Rattle.brk_model.specs.Answers.{Fields}
@@ -15,8 +14,7 @@ use Rattle.brk_model_http.specs.Replies.{Response, FromProblem, FromOutcome}
 use Rattle.brk_model_http.specs.Routes.{Route, ToRow, ToView, route_of_target}
 use Rattle.brk_model_http.specs.declared.problem.RequestProblem.TheVariants.{NotFound, NotAllowed, BadRequest}
 
--- The parser of rows (`row`), the names of the known views (`views`), and the parser of queries
--- (`query`), from the name of a view and its arguments.
+-- The parsers of rows and of queries (from a view's name and its arguments), and the known views.
 pub record RequestParsers : Type 0 where
   pub row : Fields → ReadResult Command
   pub views : List Text
@@ -32,9 +30,8 @@ pub data RequestDemand : Type 0 where
   DeskCall : Call → RequestDemand
 
 -- The demand of a request with the given route, from the texts of its body: for a row, the call of
--- the command that the texts parse as by `forms`, with the key of the route if it has one; for a
--- view, the call of the query that they parse as by `forms`; or, if the parser refuses the texts,
--- the response with its refusal.
+-- the command that they parse as by `forms`, with the key of the route, if any; for a view, the
+-- call of the query; or, if the parser refuses the texts, the response with its refusal.
 abbrev pub demand_of_texts : RequestParsers → Route → Fields → RequestDemand
 demand_of_texts forms (ToRow key) texts =
     elim (forms.row texts) [
@@ -48,9 +45,8 @@ demand_of_texts forms (ToView view) texts =
     ]
 
 -- The demand of the request: the response with the problem of the first check that fails, otherwise
--- the demand of the texts of its body. The checks are, in sequence: the target has a route
--- (`NotFound`), the method is POST (`NotAllowed`), and the body is a JSON array of strings in UTF-8
--- (`BadRequest`). Rows and queries are parsed by `forms`.
+-- the demand of the texts of its body. The checks: the target has a route (`NotFound`), the method
+-- is POST (`NotAllowed`), the body is a JSON array of strings in UTF-8 (`BadRequest`).
 unfoldable pub demand_of_request : RequestParsers → Request → RequestDemand
 demand_of_request forms request =
     elim (route_of_target forms.views request.target) [

@@ -20,8 +20,7 @@ pub record ResponseAndBase : Type 0 where
   pub moments : List ℕ
   pub base : Base
 
--- The response with the answer to a command, the clock readings `moments` that remain, and the base
--- after the command.
+-- The response with the answer to a command, the remaining clock readings, and the base after it.
 abbrev pub response_with_command_answer : List ℕ → Answer × Base → ResponseAndBase
 response_with_command_answer moments (answer, base) = record { response = FromOutcome (Did answer); moments = moments; base = base }
 
@@ -30,10 +29,9 @@ abbrev pub outcome_of_query_result : Result View Refusal → Outcome
 outcome_of_query_result (Ok view) = Saw view
 outcome_of_query_result (Err refusal) = NoView refusal
 
--- The response to a demand on `base`, the clock readings that remain after it, and the base after
--- it, computed by the model. The call of a command takes the first clock reading, any other demand
--- takes none. No call fails in the model, except that a command for which no clock reading remains
--- fails with `Store` and leaves the base unchanged.
+-- The response to a demand on `base`, the remaining clock readings, and the base after it. The call
+-- of a command takes the first clock reading, any other demand none. No call fails, except that a
+-- command without a clock reading fails with `Store` and leaves the base unchanged.
 abbrev pub response_to_demand : Base → List ℕ → RequestDemand → ResponseAndBase
 response_to_demand base moments (ResponseOnly said) = record { response = said; moments = moments; base = base }
 response_to_demand base moments (DeskCall (Ask query)) =
@@ -46,16 +44,14 @@ response_to_demand base [] (DeskCall (Do command key)) = record { response = Fro
 abbrev pub is_last_response : ℕ → Request → Response → Bool
 is_last_response n request response = (n + 1 == most_requests_per_stream) || request.closes || is_fault_response response
 
--- The reply to a request after `n` earlier requests, followed by the replies that `more` returns
--- for the base and the clock readings after the request, unless the reply is the last of the
--- stream.
+-- The reply to a request after `n` earlier requests, followed by the replies of `more` for the base
+-- and the clock readings after it, unless the reply is the last of the stream.
 abbrev pub reply_followed_by_more : ℕ → Request → ResponseAndBase → (Base → List ℕ → List Text) → List Text
 reply_followed_by_more n request r more =
     reply_text r.response (is_last_response n request r.response) ∷ (if is_last_response n request r.response then [] else more r.base r.moments)
 
 -- The replies to the requests, executed in sequence from `base` on with the clock readings
--- `moments`, after `n` earlier requests of the stream. Requests after the last reply of the stream
--- have no reply.
+-- `moments`, after `n` earlier requests; none to requests after the last reply of the stream.
 abbrev pub replies_to_requests : ℕ → Base → List ℕ → List Request → List Text
 replies_to_requests n base moments [] = []
 replies_to_requests n base moments (request ∷ requests) =

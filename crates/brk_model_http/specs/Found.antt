@@ -10,8 +10,7 @@ use Rattle.brk_model_http.specs.declared.problem.RequestProblem.TheVariants.{Too
 use Rattle.brk_model_http.specs.declared.head_end.HeadEnd.{HeadEnd}
 use Rattle.brk_model_http.specs.declared.head_end.HeadEnd.TheVariants.{Nothing, TooLong, Cut, At}
 
--- A request: its method, its target and its body, and `closes`, which is true if the request asks
--- to close the stream after its reply.
+-- A request: method, target, body, and `closes`: it asks to close the stream after its reply.
 pub record Request : Type 0 where
   pub method : Text
   pub target : Text
@@ -31,12 +30,11 @@ pub data RequestReading : Type 0 where
 abbrev pub most_head_fields : ℕ
 most_head_fields = 100
 
--- The result of reading a request with the head `h`, whose body has the given length, in bytes, or
--- problem, from the bytes `rest` after the head. The request cannot be read because of the problem
--- of the length if there is one, or because of `BadRequest` if `rest` is shorter than the body.
--- Otherwise the body is the front of `rest`, and the bytes after it are left. The request asks to
--- close the stream exactly if its HTTP version is 1.0 or `has_connection_close` is true of its
--- fields.
+-- The result of reading a request with the head `h` and the given body length, in bytes, or
+-- problem, from the bytes `rest` after the head: unreadable by that problem, or by `BadRequest` if
+-- `rest` is shorter than the body; otherwise the body is the front of `rest`, and the bytes after
+-- it are left. It asks to close the stream exactly if its HTTP version is 1.0 or
+-- `has_connection_close` is true of its fields.
 abbrev pub reading_with_body_length : RequestHead → Text → Result ℕ RequestProblem → RequestReading
 reading_with_body_length h rest (Err problem) = Unreadable problem
 reading_with_body_length h rest (Ok n) =
@@ -59,9 +57,8 @@ reading_after_head h rest = reading_with_body_length h rest (body_length_of_fiel
 abbrev pub IsRequestHead : Text → RequestHead → Type 0
 IsRequestHead front h = ReadsRequest front h [] × (length h.fields ≤ most_head_fields)
 
--- Either `front` is a request head (`IsRequestHead`) and `found` is the result of reading the
--- request with its body from `rest`, or `front` is no request head, for instance because it has too
--- many fields, and `found` is the problem `BadRequest`.
+-- Either `front` is a request head and `found` the result of reading the request with its body from
+-- `rest`, or it is none, for instance with too many fields, and `found` is `BadRequest`.
 abbrev pub ReadsHeadAndBody : Text → Text → RequestReading → Type 0
 ReadsHeadAndBody front rest found =
     ((h : RequestHead) × IsRequestHead front h × (found ≡ reading_after_head h rest))
@@ -76,7 +73,6 @@ ReadsByHeadEnd TooLong input found = found ≡ Unreadable TooLarge
 ReadsByHeadEnd Cut input found = found ≡ Unreadable BadRequest
 ReadsByHeadEnd (At n) input found = ReadsHeadAndBody (take n input) (drop n input) found
 
--- Reading a request at the front of `input`, the bytes that remain on the stream, results in
--- `found`.
+-- Reading a request at the front of `input`, all that remains on the stream, results in `found`.
 abbrev pub ReadsFirstRequest : Text → RequestReading → Type 0
 ReadsFirstRequest input found = ReadsByHeadEnd (head_end input) input found

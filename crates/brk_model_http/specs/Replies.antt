@@ -12,8 +12,8 @@ use Rattle.brk_model_http.specs.Routes.{split_at_byte}
 use Rattle.brk_model_http.specs.declared.problem.RequestProblem.{RequestProblem}
 use Rattle.brk_model_http.specs.declared.problem.RequestProblem.TheVariants.{TooLarge, BadRequest, NotImplemented, NotFound, NotAllowed}
 
--- The response to a request: a problem, or an outcome: that of a call of the desk, or the refusal
--- of a malformed row or query, for which no call is made.
+-- The response to a request: a problem, or an outcome, of a call of the desk or, without a call,
+-- the refusal of a malformed row or query.
 pub data Response : Type 0 where
   FromProblem : RequestProblem → Response
   FromOutcome : Outcome → Response
@@ -47,16 +47,14 @@ http_status_of_answer (Done reply) = codes "200 OK"
 http_status_of_answer (Again line) = codes "200 OK"
 http_status_of_answer (Refused refusal) = codes "409 Conflict"
 
--- The HTTP status of the outcome of a call, number and phrase: 409 for the refusal of a command or
--- a query, 503 for a fault, otherwise 200.
+-- The HTTP status of an outcome, number and phrase: 409 (refusal), 503 (fault), otherwise 200.
 abbrev pub http_status_of_outcome : Outcome → Text
 http_status_of_outcome (Did answer) = http_status_of_answer answer
 http_status_of_outcome (Saw view) = codes "200 OK"
 http_status_of_outcome (NoView refusal) = codes "409 Conflict"
 http_status_of_outcome (Failed fault) = codes "503 Service Unavailable"
 
--- The HTTP status of a response, number and phrase: the status of its problem, or of the outcome of
--- its call.
+-- The HTTP status of a response, number and phrase, by its problem or by its outcome.
 abbrev pub http_status_of_response : Response → Text
 http_status_of_response (FromProblem problem) = http_status_of_problem problem
 http_status_of_response (FromOutcome outcome) = http_status_of_outcome outcome
@@ -68,16 +66,14 @@ answer_body (Done reply) = json_texts_object (codes "ok") (reply_fields reply)
 answer_body (Again line) = json_texts_object (codes "again") (split_at_byte 44 line)
 answer_body (Refused refusal) = json_texts_object (codes "no") (refusal_fields refusal)
 
--- The body of the reply for the outcome of a call: the JSON object of an answer, of the records of
--- a view, of the refusal of a query, or of the word of a fault.
+-- The body of the reply for an outcome: of an answer, a view, the refusal of a query, or a fault.
 abbrev pub outcome_body : Outcome → Text
 outcome_body (Did answer) = answer_body answer
 outcome_body (Saw view) = json_records_object (codes "view") view
 outcome_body (NoView refusal) = json_texts_object (codes "no") (refusal_fields refusal)
 outcome_body (Failed fault) = json_error_object (fault_word fault)
 
--- The body of the reply for a response: the JSON object of an error with the text of its problem,
--- or the body for its outcome.
+-- The body of the reply for a response: an error with the text of its problem, or `outcome_body`.
 abbrev pub response_body : Response → Text
 response_body (FromProblem problem) = json_error_object (text_of_problem problem)
 response_body (FromOutcome outcome) = outcome_body outcome
@@ -103,14 +99,12 @@ is_fault_response (FromProblem problem) = false
 abbrev pub http_head_line : Text → Text
 http_head_line text = text ++ 13 ∷ 10 ∷ []
 
--- The line of a head with the text `text`, ended by CR LF, if `is_there` is true, otherwise no
--- bytes.
+-- The line of a head with the text `text`, ended by CR LF, if `is_there`; otherwise no bytes.
 abbrev pub head_line_if : Bool → Text → Text
 head_line_if is_there text = if is_there then http_head_line text else []
 
--- The bytes of a reply: the status line with `status`, the fields of the head, an empty line and
--- `body`. The head states the type and the length of the body, and has the field `Allow: POST` if
--- `asks_post` is true, and `Connection: close` if `closes` is true.
+-- The bytes of a reply: the status line with `status`, the head fields (type and length of the
+-- body, `Allow: POST` if `asks_post`, `Connection: close` if `closes`), an empty line and `body`.
 unfoldable pub reply_bytes : Text → Bool → Bool → Text → Text
 reply_bytes status asks_post closes body =
     http_head_line (codes "HTTP/1.1 " ++ status)

@@ -7,8 +7,7 @@ use Rattle.brk_model.specs.Records.{Key}
 use Rattle.brk_model.specs.Forms.{ReadResult, is_batch_name, read_id}
 
 -- The parts of the text before, between and after the bytes equal to `cut`, in sequence and without
--- these bytes. A part may be empty; without such a byte the text, also if it is empty, is the only
--- part.
+-- these bytes. A part may be empty; without such a byte the text is the only part.
 unfoldable pub split_at_byte : ℕ → Text → List Text
 split_at_byte cut text = slice_split (λ b. eqb b cut) text
 
@@ -17,20 +16,17 @@ pub data Route : Type 0 where
   ToRow : Option Key → Route
   ToView : Text → Route
 
--- The key of the text `batch` and a row number; none if `batch` does not have the format of a batch
--- name, or if the number is a refusal because its text was malformed or out of range.
+-- The key of the text `batch` and a row number; none if the name or the number is malformed.
 abbrev pub key_of_batch_row : Text → ReadResult ℕ → Option Key
 key_of_batch_row batch (Err refusal) = None
 key_of_batch_row batch (Ok n) = if is_batch_name batch then Some (record { batch = batch; n = n }) else None
 
--- True if `first`, the part before the first slash of a target, is empty, and `word`, the part
--- between this slash and the next one or the end, equals `name`.
+-- True if a target's part before its first slash is empty, and its next part, `word`, is `name`.
 abbrev pub has_first_segment : Text → Text → Text → Bool
 has_first_segment first word name = bytes_eq first [] && bytes_eq word name
 
--- The route of a target with the given parts before, between and after its slashes: /rows,
--- /rows/BATCH/N with texts in the formats of a batch name and of a row number (`read_id`), or
--- /ask/VIEW with one of `views`; none for any other target.
+-- The route of a target with the given parts between slashes: /rows, /rows/BATCH/N with a batch
+-- name and a row number (`read_id`), or /ask/VIEW with one of `views`; none for any other target.
 abbrev pub route_of_segments : List Text → List Text → Option Route
 route_of_segments views (first ∷ word ∷ []) = if has_first_segment first word (codes "rows") then Some (ToRow None) else None
 route_of_segments views (first ∷ word ∷ view ∷ []) =
@@ -39,7 +35,6 @@ route_of_segments views (first ∷ word ∷ batch ∷ n ∷ []) =
     if has_first_segment first word (codes "rows") then option_map (λ key. ToRow (Some key)) (key_of_batch_row batch (read_id n)) else None
 route_of_segments views _ = None
 
--- The route of the target, if `views` are the known views; none if the target is not UTF-8 or has
--- no route. Nothing in the target is decoded.
+-- The route of the target for the known `views`, undecoded; none if it is not UTF-8 or has none.
 unfoldable pub route_of_target : List Text → Text → Option Route
 route_of_target views target = if is_utf8 target then route_of_segments views (split_at_byte 47 target) else None

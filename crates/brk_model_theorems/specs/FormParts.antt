@@ -17,8 +17,7 @@ use Rattle.brk_model.specs.Keys.{kept_key, broker_key, customer_key, account_key
 use Rattle.brk_model.specs.Keys.{tax_rate_key, customer_tax_key, trade_key, history_key, request_key, holding_key, summary_key, holding_history_key}
 use Rattle.brk_model.specs.Keys.{settlement_key, cash_transaction_key, cash_move_key}
 
--- The tables `t` satisfy each part of the audit condition `Form` in the schema `schema`: each field
--- of the record is one part.
+-- The tables `t` satisfy each part of the audit condition `Form` in the schema `schema`.
 pub record SatisfiesFormParts (schema : Schema) (t : Tables) : Type 0 where
   pub clock : is_last_stamp_in_calendar t.last ≡ true
   pub keys : has_tables_sorted_by_unique_key t ≡ true
@@ -51,8 +50,7 @@ pub record SatisfiesFormParts (schema : Schema) (t : Tables) : Type 0 where
   pub rule : is_one_day_settlement_start_in_calendar t.rule ≡ true
   pub fits : has_rows_only_in_tables_of_schema schema t ≡ true
 
--- Each table of `t` except DESK and SETTLE_RULE, which have at most one row, is sorted by its key,
--- strictly ascending.
+-- Each table of `t` except DESK and SETTLE_RULE is sorted by its key, strictly ascending.
 pub record HasSortedTables (t : Tables) : Type 0 where
   pub kept : is_sorted_by_unique_key kept_key t.kept ≡ true
   pub brokers : is_sorted_by_unique_key broker_key t.brokers ≡ true

@@ -9,8 +9,7 @@ use Rattle.brk_model.specs.Step.{step}
 use Rattle.brk_model.specs.Run.{Call, Outcome, Run}
 use Rattle.brk_model_theorems.specs.Laws.{AcceptsNothingUnderKey}
 
--- A row that is accepted: the command `command`, executed under the key `key` over `base` at the
--- clock reading `now`, has the reply `reply`, and `after` is the base after it.
+-- A row accepted under its key over `base` at `now`, with the reply `reply` and the base `after`.
 pub record AcceptedRow : Type 0 where
   pub base : Base
   pub after : Base
@@ -20,8 +19,7 @@ pub record AcceptedRow : Type 0 where
   pub reply : Reply
   pub accepted : keyed_step base now command (Some key) ≡ (Done reply, after)
 
--- A row that is refused: the command `command`, executed under the key `key` over `base` at the
--- clock reading `now`, is refused with `refusal`, and `after` is the base after it.
+-- A row refused under its key over `base` at `now` with the refusal `refusal` and the base `after`.
 pub record RefusedRow : Type 0 where
   pub base : Base
   pub after : Base
@@ -41,9 +39,8 @@ RunNotAcceptingKeyLeadsTo key base later =
     (calls : List (ℕ × Call)) × (outcomes : List Outcome) × Run base calls outcomes later × AcceptsNothingUnderKey key calls outcomes
 
 -- If `step` accepts the command over `base` at the clock reading `now`, `keyed_step` accepts it
--- under the key, with the reply of `step`. The base after it is the base after `step` with the text
--- of the command's row and the line of the reply stored under the key. Vacuous if `step` refuses
--- the command.
+-- under the key, with the reply of `step`, and its base also stores the command's row and the reply
+-- under the key. Vacuous if `step` refuses the command.
 abbrev pub IsAcceptedIfStepAccepts : Base → Key → ℕ → Command → Type 0
 IsAcceptedIfStepAccepts base key now command =
     (reply : Reply) (booked : Base) → step base now command ≡ Ok (reply, booked)

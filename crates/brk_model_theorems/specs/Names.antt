@@ -1,5 +1,4 @@
--- References between the records of a base: the named records exist, and trades are numbered from
--- 1.
+-- References between the records of a base: named records exist, and trades are numbered from 1.
 use Rattle.std.specs.Prelude.{◌≡◌, true, List, is_some}
 use Rattle.std.specs.List.{AllByRecursion}
 use Rattle.brk_model.specs.Records.{Account, Permission, CustomerTax, Trade, Movement}
@@ -34,7 +33,6 @@ pub record ReferencesResolve (base : Base) (accounts : List Account) (permission
   pub numbered : TradesAreNumberedFrom 1 trades
   pub held : AllByRecursion (AccountOfMovementExists base) movements
 
--- Every record to which the records of `base` refer exists in `base`, and the trades of `base` are
--- numbered from 1, in sequence.
+-- Every record to which records of `base` refer exists in it, and its trades are numbered from 1.
 abbrev pub BaseReferencesResolve : Base → Type 0
 BaseReferencesResolve base = ReferencesResolve base base.accounts base.permissions base.customer_taxes base.trades base.movements

@@ -10,8 +10,7 @@ use Rattle.brk_model.specs.Tables.{HoldingRow}
 abbrev pub AllSharesHaveSide : Side → List Share → Type 0
 AllSharesHaveSide side shares = AllByRecursion (λ share. share.side ≡ side) shares
 
--- All shares of the list have one side: they were all bought, or all sold short. The empty list
--- always satisfies this.
+-- All shares of the list have one side, bought or sold short. The empty list always satisfies this.
 abbrev pub AllSharesHaveSameSide : List Share → Type 0
 AllSharesHaveSameSide shares = (side : Side) × AllSharesHaveSide side shares
 

@@ -1,6 +1,5 @@
--- The well-formed rows of a batch as calls, each with its key and its clock reading, and the
--- answers to all rows: the answers to the calls, with the refusals of the malformed rows between
--- them. The theorems on runs and retries of batches are over these calls.
+-- The well-formed rows of a batch as calls, with their keys and clock readings, and the answers to
+-- all rows, with refusals of malformed rows in between; for theorems on runs and retries.
 use Rattle.std.specs.Prelude.{◌≡◌, ℕ, ◌+◌, List, [], ◌∷◌, length, Ok, Err}
 use Rattle.brk_money.specs.Spelling.{Text}
 use Rattle.brk_model.specs.Records.{Key}
@@ -27,8 +26,7 @@ CallsHaveAnswers step base (call ∷ calls) (answer ∷ answers) after =
 CallsHaveAnswers step base [] (answer ∷ answers) after = ⊥
 CallsHaveAnswers step base (call ∷ calls) [] after = ⊥
 
--- The list `rest` with the row number `n` and the command of a row in front if the row is
--- well-formed (`Ok`), or `rest` unchanged if the row is malformed (`Err`).
+-- `rest`, with `n` and the command of the row in front if the row is well-formed (`Ok`).
 abbrev pub rows_with_well_formed_row : {C : Type 0} → ReadResult C → ℕ → List (ℕ × C) → List (ℕ × C)
 rows_with_well_formed_row (Ok command) n rest = (n, command) ∷ rest
 rows_with_well_formed_row (Err refusal) n rest = rest
@@ -46,9 +44,8 @@ calls_of_rows batch (moment ∷ moments) (row ∷ rows) =
 calls_of_rows batch [] rows = []
 calls_of_rows batch (moment ∷ moments) [] = []
 
--- The answers to a row and to the rows after it: first the refusal of the row if it is malformed,
--- otherwise the first of `answers`, if there is one; then the answers that `more` returns for the
--- remaining ones of `answers`: all of them if the row is malformed.
+-- The answers to a row and to the rows after it: its refusal if it is malformed, otherwise the
+-- first of `answers`, if any; then the answers that `more` returns for the remaining `answers`.
 abbrev pub answers_to_row_and_rest : {C : Type 0} → ReadResult C → (List Answer → List Answer) → List Answer → List Answer
 answers_to_row_and_rest (Err refusal) more answers = Refused refusal ∷ more answers
 answers_to_row_and_rest (Ok command) more (answer ∷ answers) = answer ∷ more answers

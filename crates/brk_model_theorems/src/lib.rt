@@ -5,7 +5,7 @@
 pub mod batches;
 pub mod forms;
 pub mod keys;
-pub mod names;
 pub mod positions;
+pub mod referenced_records;
 pub mod runs;
 pub mod texts;

@@ -1,5 +1,4 @@
--- The types of trades, the statuses, the refusals, the faults and the audit conditions, with the
--- words and numbers that represent them.
+-- The types of trades, statuses, refusals, faults and audit conditions, with words and numbers.
 use Rattle.std.specs.Prelude.{ℕ, Bool, true, false, List, [], ◌∷◌, ◌==◌, if◌then◌else◌, Option, Some, None, codes, decimal}
 use Rattle.std.specs.List.{join_with_byte}
 use Rattle.brk_money.specs.declared.trade_type.TradeType.{TradeType}
@@ -31,8 +30,7 @@ side_of_trade_type StopLoss = Sell
 side_of_trade_type LimitSell = Sell
 side_of_trade_type LimitBuy = Buy
 
--- True if a trade of this type is executed at the market price (TT_IS_MRKT): `MarketBuy` or
--- `MarketSell`.
+-- True if a trade of this type is executed at the market price (TT_IS_MRKT).
 abbrev pub is_market_type : TradeType → Bool
 is_market_type MarketBuy = true
 is_market_type MarketSell = true
@@ -147,8 +145,7 @@ refusal_fields refusal = decimal (refusal_number refusal) ∷ refusal_detail_fie
 abbrev pub refusal_text : Refusal → List ℕ
 refusal_text refusal = join_with_byte 44 (refusal_fields refusal)
 
--- The number that represents a fault: 90 for `Memory`, 91 for `Store`, 92 for `Damaged` with any
--- condition.
+-- The number of a fault: 90 for `Memory`, 91 for `Store`, 92 for `Damaged` with any condition.
 abbrev pub fault_number : Fault → ℕ
 fault_number Memory = 90
 fault_number Store = 91

@@ -1,5 +1,4 @@
--- The canonical text of a number, an amount and a day. A text parses as a value if it is the
--- value's canonical text.
+-- The canonical texts of numbers, amounts and days. A text parses as the value whose text it is.
 use Rattle.std.specs.Prelude.{ℕ, suc, ◌+◌, ◌-◌, ◌*◌, ◌/◌, ◌%◌, ◌≤◌, if◌then◌else◌, List, [], ◌∷◌, ◌++◌, fold, filter, length, take, drop, replicate, ◌==◌}
 use Rattle.std.specs.Prelude.{Option, Some, None, ℤ, pos, negsuc, neg_ℤ, nat_le, nat_abs, decimal, bytes_eq, slice_index, Bool}
 use Rattle.std.specs.Char.{is_ascii_digit}
@@ -14,13 +13,11 @@ Text = List ℕ
 abbrev pub value_if_canonical : {A : Type 0} → (A → Text) → A → Text → Option A
 value_if_canonical spell value text = if bytes_eq (spell value) text then Some value else None
 
--- The number whose decimal digits are the ASCII digits of the text, in sequence, or 0 if there are
--- none; all other bytes are left out.
+-- The number of the text's ASCII digits, in sequence, or 0 without any; other bytes are left out.
 abbrev pub number_from_ascii_digits : Text → ℕ
 number_from_ascii_digits text = fold (λ n c. 10 * n + (c - 48)) 0 (filter is_ascii_digit text)
 
--- The number whose canonical decimal text equals `text`: digits without a leading zero, except for
--- 0 itself. None if there is no such number.
+-- The number whose canonical decimal text (no leading zero) equals `text`, or none.
 abbrev pub decimal_number_of_text : Text → Option ℕ
 decimal_number_of_text text = value_if_canonical decimal (number_from_ascii_digits text) text
 
@@ -33,8 +30,7 @@ number_within_limit limit (Some n) = if nat_le n limit then Some n else None
 abbrev pub is_within_amount_limit : ℤ → Bool
 is_within_amount_limit z = nat_le (nat_abs z) Cents.GREATEST
 
--- The absolute value of the amount, in cents, is at most `Cents.GREATEST`. This proposition holds
--- if and only if `is_within_amount_limit` is true for the amount.
+-- The amount's absolute value, in cents, is at most `Cents.GREATEST` (`is_within_amount_limit`).
 abbrev pub IsWithinAmountLimit : ℤ → Type 0
 IsWithinAmountLimit (pos n) = n ≤ Cents.GREATEST
 IsWithinAmountLimit (negsuc n) = suc n ≤ Cents.GREATEST
@@ -72,9 +68,8 @@ date_text d = padded_decimal 4 d.year ++ 45 ∷ padded_decimal 2 d.month ++ 45 �
 abbrev pub day_text : ℕ → Text
 day_text day = date_text (civil_date_of_day day)
 
--- The civil date whose year, month and day are the `number_from_ascii_digits` of bytes 0 to 3, 5 to
--- 6 and 8 to 9 of the text, counted from 0; bytes that a shorter text lacks are left out. This date
--- need not be in the calendar.
+-- The civil date of the `number_from_ascii_digits` of bytes 0 to 3, 5 to 6 and 8 to 9 of the text,
+-- as far as it has them. It need not be in the calendar.
 abbrev pub civil_date_from_ascii_digits : Text → CivilDate
 civil_date_from_ascii_digits text = record {
   year = number_from_ascii_digits (take 4 text);
@@ -82,20 +77,17 @@ civil_date_from_ascii_digits text = record {
   day = number_from_ascii_digits (take 2 (drop 8 text));
 }
 
--- The day, at most `greatest_day`, whose canonical text equals `text`, in days since 1970-01-01;
--- none if there is no such day.
+-- The day, in days since 1970-01-01, up to `greatest_day`, with the canonical text `text`, or none.
 abbrev pub day_of_text : Text → Option ℕ
 day_of_text text = value_if_canonical day_text (day_of_civil_date (civil_date_from_ascii_digits text)) text
 
--- The amount, in cents, if there is one and its absolute value is at most `Cents.GREATEST`,
--- otherwise none.
+-- The amount, in cents, if its absolute value is at most `Cents.GREATEST`, otherwise none.
 abbrev pub amount_within_limit : Option ℤ → Option ℤ
 amount_within_limit None = None
 amount_within_limit (Some z) = if is_within_amount_limit z then Some z else None
 
--- The number whose decimal digits are the digits of `n` followed by the ASCII digits of the list. A
--- byte that is no digit is not left out: its digit counts as its value minus 48, or as 0 if its
--- value is below 48.
+-- The number with the digits of `n` followed by the ASCII digits of the list. A byte that is no
+-- digit counts as its value minus 48, or as 0 if it is below 48.
 abbrev pub number_with_more_digits : ℕ → List ℕ → ℕ
 number_with_more_digits n [] = n
 number_with_more_digits n (c ∷ cs) = number_with_more_digits (n * 10 + (c - 48)) cs

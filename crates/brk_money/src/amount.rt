@@ -1,3 +1,5 @@
+//! Amounts that are never negative, and the absolute value of `Cents` as such an amount.
+
 ghost use Rattle.std.specs.Prelude.{◌≡◌, ℕ, ◌≤◌, Some, SomeIff, nat_abs, pos};
 ghost use Rattle.brk_money.specs.Spelling.{cents_text};
 ghost use Rattle.brk_money.specs.declared.amount.TheConstants.Amount;

@@ -1,3 +1,5 @@
+//! The amounts that are rounded half up: the commission and the tax of a trade.
+
 ghost use Rattle.std.specs.Prelude.{◌≡◌, ◌+◌, ◌*◌, ◌<◌, ◌≤◌, ◌^◌, pos};
 ghost use Rattle.brk_money.specs.Amounts as spec;
 ghost use Rattle.brk_money.specs.declared.cents.TheConstants.Cents;

@@ -1,3 +1,5 @@
+//! The type `Cents` and the parser of its text, which `wide` writes.
+
 ghost use Rattle.std.specs.Prelude.{◌≡◌, ◌≢◌, ◌≤◌, ◌+◌, ◌<◌, ◌^◌, ◌≤ℤ◌, ℕ, ℤ, pos, neg_ℤ, SomeIff, IfSome, IfNone, Some};
 ghost use Rattle.brk_money.specs.declared.cents.TheConstants.Cents;
 ghost use Rattle.brk_money.specs.Spelling.{cents_text, unsigned_cents_text, IsWithinAmountLimit};

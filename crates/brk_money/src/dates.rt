@@ -1,3 +1,5 @@
+//! The canonical texts of days, parsed and written.
+
 ghost use Rattle.std.specs.Prelude.{◌≡◌, ◌≢◌, ◌++◌, ◌≤◌, ℕ, pos, IfSome, IfNone, OnOk, OnErr, Err};
 ghost use Rattle.jiff.specs.Words.{epoch_day};
 ghost use Rattle.brk_money.specs.Moments.{greatest_day};

@@ -1,3 +1,5 @@
+//! The faults of calls, and the conditions of an audit, one of which a damaged database fails.
+
 ghost use Rattle.std.specs.Prelude.{◌≡◌};
 ghost use Rattle.brk_money.specs.Kinds.{condition_word, fault_number, fault_of_call};
 ghost use Rattle.brk_money.specs.declared.fault.CallFault.TheVariants as call;

@@ -1,3 +1,5 @@
+//! The refusals of commands and queries, and the limits that a refusal names.
+
 ghost use Rattle.std.specs.Prelude.{◌≡◌, Some};
 ghost use Rattle.brk_money.specs.Kinds.{limit_word, refusal_number, refusal_text};
 

@@ -1,3 +1,5 @@
+//! The type `Wide`, and the writers of the canonical texts of amounts and prices.
+
 ghost use Rattle.std.specs.Prelude.{◌≡◌, ◌++◌, ℤ, pos, OnOk, OnErr, Err, Some};
 ghost use Rattle.brk_money.specs.Spelling.{cents_text};
 ghost use Rattle.brk_money.specs.declared.fault.Fault.TheVariants.{Memory};

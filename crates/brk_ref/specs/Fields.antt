@@ -9,9 +9,8 @@ use Rattle.brk_model.specs.Forms.{ReadResult}
 abbrev pub texts_of_fields : List (Bor (List ℕ)) → List Text
 texts_of_fields fields = map (λ (field : Bor (List ℕ)). field.now) fields
 
--- The result of a parser corresponds to `wanted`, the result that the model specifies. If the
--- parser returned `Ok`, `wanted` is `Ok` of the model's value (`view`) of the parsed record; if it
--- returned `Err`, `wanted` is `Err` of the refusal that it returned.
+-- A parser's result corresponds to `wanted`, the model's: at `Ok`, `wanted` is `Ok` of the model's
+-- value (`view`) of the record; at `Err`, `wanted` is `Err` of the same refusal.
 abbrev pub ParsesAs : {A B : Type 0} → (A → B) → Result A Refusal → ReadResult B → Type 0
 ParsesAs view (Ok x) wanted = wanted ≡ Ok (view x)
 ParsesAs view (Err refusal) wanted = wanted ≡ Err refusal

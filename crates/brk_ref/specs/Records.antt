@@ -72,13 +72,11 @@ abstract_customer_tax x = record { customer = x.customer; tax = x.tax }
 abbrev pub abstract_key : key.Key → Key
 abstract_key k = record { batch = k.batch; n = k.n }
 
--- The model's KEPT row with the values of the typed row `k`: its key, and the bytes of the stored
--- request and of the stored reply.
+-- The model's KEPT row with the values of the typed row `k`.
 abbrev pub abstract_kept_row : kept.Kept → Kept
 abstract_kept_row k = record { key = abstract_key k.key; row_text = string_bytes k.row_text; line = string_bytes k.line }
 
--- The model's KEPT row with the values of the typed key `k` as its key, an empty stored request and
--- an empty stored reply.
+-- The model's KEPT row with the key `k`, an empty stored request and an empty stored reply.
 abbrev pub kept_row_with_empty_texts : key.Key → Kept
 kept_row_with_empty_texts k = record { key = abstract_key k; row_text = []; line = [] }
 

@@ -74,12 +74,10 @@ abstract_old_cash_row r = record { trade = r.trade; stamp = r.stamp; amount = r.
 abbrev pub abstract_cash_row : move.CashRow → CashRow
 abstract_cash_row r = record { id = r.id; account = r.account; trade = r.trade; stamp = r.stamp; amount = r.amount; name = string_bytes r.name }
 
--- The key by which lots are sorted by age: the stamp at which the lot `r` was opened, then the
--- trade that opened it.
+-- The key that sorts lots by age: the stamp of the opening of the lot `r`, then its trade.
 abbrev pub lot_age_key : HoldingRow → List KeyPart
 lot_age_key r = number r.stamp ∷ number r.trade ∷ []
 
--- The HOLDING rows sorted by the stamp at which their lots were opened, then by the trade that
--- opened them, ascending: the oldest first.
+-- The HOLDING rows sorted by the stamp of their lots' opening, then by trade: the oldest first.
 abbrev pub lots_oldest_first : List HoldingRow → List HoldingRow
 lots_oldest_first = rows_sorted_by_key lot_age_key

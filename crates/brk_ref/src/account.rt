@@ -68,7 +68,7 @@ fn parse_account(
     }))
 }
 
-fn parse_account_terms(
+fn parse_account_with_last_fields(
     alloc: Global,
     id: &[u8],
     customer: &[u8],
@@ -91,5 +91,5 @@ pub fn check_account(alloc: Global, fields: &[&[u8]]) -> Planned<Account>
     let [id, customer, broker, terms @ ..] = fields else {
         return Ok(Err(Refusal::BadText));
     };
-    Ok(parse_account_terms(alloc, id, customer, broker, terms)?)
+    Ok(parse_account_with_last_fields(alloc, id, customer, broker, terms)?)
 }

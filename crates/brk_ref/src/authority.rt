@@ -14,7 +14,7 @@ fn has_identity(executor: &Executor, first_name: &Name, last_name: &Name, tax_id
         && executor.tax_id.as_str() == tax_id.as_str()
 }
 
-fn permits(permission: &Permission, executor: &Executor) -> bool
+fn is_person_of_permission(permission: &Permission, executor: &Executor) -> bool
     ensures { result ≡ orders.executor_has_identity (abstract_executor executor.now) permission.now.first_name permission.now.last_name permission.now.tax_id }
 {
     has_identity(
@@ -39,5 +39,5 @@ pub fn permitted(customer: &Customer, permissions: &[Permission], executor: &Exe
         &customer.tax_id,
     ) || permissions
         .iter()
-        .any(|permission| permits(permission, executor))
+        .any(|permission| is_person_of_permission(permission, executor))
 }

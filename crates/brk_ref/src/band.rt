@@ -80,7 +80,7 @@ fn parse_band(
     }))
 }
 
-fn parse_band_terms(
+fn parse_band_with_last_fields(
     alloc: Global,
     tier: &[u8],
     kind: &[u8],
@@ -104,7 +104,7 @@ pub fn check_band(alloc: Global, fields: &[&[u8]]) -> Planned<Band>
     let [tier, kind, exchange, terms @ ..] = fields else {
         return Ok(Err(Refusal::BadText));
     };
-    Ok(parse_band_terms(alloc, tier, kind, exchange, terms)?)
+    Ok(parse_band_with_last_fields(alloc, tier, kind, exchange, terms)?)
 }
 
 /// Returns true if the quantity is within the bounds of the band, both included.
@@ -116,7 +116,7 @@ pub fn band_contains_quantity(band: &Band, qty: Qty) -> bool
 
 /// Returns true if tier, type and exchange are equal and the lower bound of each band is at most
 /// the upper bound of the other.
-pub fn overlaps_band(one: &Band, other: &Band) -> bool
+pub fn are_overlapping_bands(one: &Band, other: &Band) -> bool
     ensures { result ≡ bands_overlap (abstract_band one.now) (abstract_band other.now) }
 {
     one.tier == other.tier
@@ -141,5 +141,5 @@ pub fn band_for(bands: &[Band], qty: Qty) -> Option<Rate>
 pub fn overlaps(bands: &[Band], band: &Band) -> bool
     ensures { result ≡ list_any (bands_overlap (abstract_band band.now)) (map abstract_band bands.now) }
 {
-    bands.iter().any(|other| overlaps_band(band, other))
+    bands.iter().any(|other| are_overlapping_bands(band, other))
 }

@@ -50,7 +50,9 @@ pub use account::{Account, AccountRow, check_account};
 pub use acl::Acl;
 pub use answer::Answer;
 pub use authority::permitted;
-pub use band::{Band, band_contains_quantity, band_for, check_band, overlaps, overlaps_band};
+pub use band::{
+    Band, are_overlapping_bands, band_contains_quantity, band_for, check_band, overlaps,
+};
 pub use batch_name::BatchName;
 pub use borrowed::borrow_texts;
 pub use broker::{Broker, BrokerRow, check_broker};
@@ -71,8 +73,8 @@ pub use lot_change::LotChange;
 pub use moved_amount::MovedAmount;
 pub use name::Name;
 pub use numbers::{
-    parse_balance, parse_charge_amount, parse_id, parse_moved, parse_price, parse_qty, parse_rate,
-    parse_tax_rate, parse_tax_status,
+    parse_balance, parse_charge_amount, parse_id, parse_moved_amount, parse_price, parse_qty,
+    parse_rate, parse_tax_rate, parse_tax_status,
 };
 pub use old_cash_row::OldCashRow;
 pub use permission::{Permission, check_permission};

@@ -1,3 +1,5 @@
+//! A security to list with its first price, and the parser of a row `security`.
+
 ghost use Rattle.std.specs.Prelude.{◌≡◌, ◌∷◌, [], IfOk, OnErr, Err};
 ghost use Rattle.brk_model.specs.Parse.{read_listing};
 ghost use Rattle.brk_money.specs.declared.fault.Fault.TheVariants.{Memory};

@@ -68,7 +68,7 @@ pub fn parse_tax_rate(bytes: &[u8]) -> Option<TaxRate>
     TaxRate::new(number as u32)
 }
 
-fn unsigned_cents(bytes: &[u8]) -> Option<u64>
+fn parse_unsigned_cents(bytes: &[u8]) -> Option<u64>
     ensures { result ≡ number_within_limit Cents.GREATEST (nonnegative_amount (cents_of_text bytes.now)) }
 {
     let Some(cents) = parse_cents(bytes) else {
@@ -85,7 +85,7 @@ fn unsigned_cents(bytes: &[u8]) -> Option<u64>
 pub fn parse_price(bytes: &[u8]) -> Option<Price>
     ensures { ok_or result BadPrice ≡ read_price bytes.now }
 {
-    let Some(cents) = unsigned_cents(bytes) else {
+    let Some(cents) = parse_unsigned_cents(bytes) else {
         return None;
     };
     if cents > Price::GREATEST as u64 {
@@ -98,7 +98,7 @@ pub fn parse_price(bytes: &[u8]) -> Option<Price>
 pub fn parse_charge_amount(bytes: &[u8]) -> Option<ChargeAmount>
     ensures { ok_or result BadText ≡ read_charge_amount bytes.now }
 {
-    let Some(cents) = unsigned_cents(bytes) else {
+    let Some(cents) = parse_unsigned_cents(bytes) else {
         return None;
     };
     if cents > ChargeAmount::GREATEST as u64 {
@@ -108,10 +108,10 @@ pub fn parse_charge_amount(bytes: &[u8]) -> Option<ChargeAmount>
 }
 
 /// Parses an amount, such as `250.00`.
-pub fn parse_moved(bytes: &[u8]) -> Option<MovedAmount>
+pub fn parse_moved_amount(bytes: &[u8]) -> Option<MovedAmount>
     ensures { ok_or result BadText ≡ read_movement_amount bytes.now }
 {
-    let Some(cents) = unsigned_cents(bytes) else {
+    let Some(cents) = parse_unsigned_cents(bytes) else {
         return None;
     };
     MovedAmount::new(cents)

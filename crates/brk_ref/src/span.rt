@@ -1,3 +1,5 @@
+//! A span of stamps, and the parser of a stamp.
+
 ghost use Rattle.std.specs.Prelude.{◌≡◌};
 ghost use Rattle.std.specs.Option.{ok_or};
 ghost use Rattle.brk_model.specs.Forms.{read_stamp};

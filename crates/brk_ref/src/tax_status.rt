@@ -1,3 +1,5 @@
+//! Which tax statuses are taxable. The parser of a tax status is in `numbers`.
+
 ghost use Rattle.std.specs.Prelude.{◌≡◌};
 ghost use Rattle.brk_model.specs.Base as spec;
 

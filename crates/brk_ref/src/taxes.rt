@@ -1,3 +1,5 @@
+//! The sum of the rates of several taxes.
+
 ghost use Rattle.std.specs.Prelude.{◌≤◌, SomeIff, sum_by};
 ghost use Rattle.brk_money.specs.declared.tax_rate.TheConstants.TaxRate;
 

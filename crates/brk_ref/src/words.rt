@@ -1,4 +1,4 @@
-//! The words of an order's terms.
+//! The words of an order: `cash` or `margin`, `lifo` or `fifo`.
 
 ghost use Rattle.std.specs.Prelude.{◌≡◌};
 ghost use Rattle.brk_model.specs.Rows as model;

@@ -43,13 +43,11 @@ abstract_tick_as_list t = abstract_tick t ∷ []
 abbrev pub abstract_ticks : List tick.Tick → List Tick
 abstract_ticks ticks = map abstract_tick ticks
 
--- The model's ticks with the values of the typed ticks in the vector `ticks`, in the sequence of
--- the vector.
+-- The model's ticks with the values of the typed ticks of a vector, in sequence.
 abbrev pub abstract_ticks_of_vector : Vec tick.Tick → List Tick
 abstract_ticks_of_vector ticks = abstract_ticks ticks.items
 
--- The model's command that completes a trade, with the trade and the price of the typed completion
--- `c`.
+-- The model's command that completes a trade, with the values of the typed completion `c`.
 abbrev pub completion_command : completion.Completion → Command
 completion_command c = CompleteTrade c.trade c.price
 
@@ -57,15 +55,13 @@ completion_command c = CompleteTrade c.trade c.price
 abbrev pub ids_of_vector : Vec ℕ → List ℕ
 ids_of_vector ids = ids.items
 
--- The model's command with the values of a typed text update: `ChangeExecutors` for `Executors`,
--- `ChangeCashTypes` for `CashTypes` and `ChangeCashNames` for `CashNames`.
+-- The model's command with the values of a typed text update.
 abbrev pub text_update_command : told_update.Update → Command
 text_update_command (update.Executors trades) = ChangeExecutors trades
 text_update_command (update.CashTypes account span) = ChangeCashTypes account span.first span.last
 text_update_command (update.CashNames symbol span) = ChangeCashNames symbol span.first span.last
 
--- The model's command that deposits `amount` cents into `account` if the direction is `Deposit`, or
--- withdraws them from `account` if it is `Withdrawal`.
+-- The model's command that deposits `amount` cents into `account`, or withdraws them from it.
 abbrev pub cash_movement_command : Direction → (account amount : ℕ) → Command
 cash_movement_command Deposit account amount = DepositCash account amount
 cash_movement_command Withdrawal account amount = WithdrawCash account amount

@@ -1,3 +1,5 @@
+//! Market feeds, their parser, and which refusal counts if several ticks are malformed.
+
 ghost use Rattle.std.specs.Prelude.{◌≡◌, IfOk, nat_le, if◌then◌else◌};
 ghost use Rattle.brk_model.specs.Forms as forms;
 ghost use Rattle.brk_model.specs.Forms.{one_to_twenty_elements};
@@ -54,7 +56,7 @@ impl Feed {
 }
 
 // The refusal of the lowest rank is the one that is returned.
-fn check_rank(refusal: Refusal) -> u8
+fn refusal_rank(refusal: Refusal) -> u8
     ensures { result ≡ forms.format_refusal_rank refusal }
 {
     match refusal {
@@ -69,7 +71,7 @@ fn check_rank(refusal: Refusal) -> u8
 fn earlier_refusal(one: Refusal, other: Refusal) -> Refusal
     ensures { result ≡ (if nat_le (forms.format_refusal_rank one) (forms.format_refusal_rank other) then one else other) }
 {
-    if check_rank(one) <= check_rank(other) {
+    if refusal_rank(one) <= refusal_rank(other) {
         one
     } else {
         other

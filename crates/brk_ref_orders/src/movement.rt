@@ -3,7 +3,7 @@ ghost use Rattle.brk_ref_orders.specs.Records.{movement_command, cash_movement_c
 ghost use Rattle.brk_ref.specs.Fields.{ParsesAs, texts_of_fields};
 
 use brk_money::{Id, Refusal};
-use brk_ref::{MovedAmount, parse_id, parse_moved};
+use brk_ref::{MovedAmount, parse_id, parse_moved_amount};
 
 /// The direction of a movement of cash.
 #[derive(Clone, Copy, Debug, PartialEq, Eq)]
@@ -32,7 +32,7 @@ pub fn parse_cash_move(direction: Direction, fields: &[&[u8]]) -> Result<Movemen
     let Some(account) = parse_id(account) else {
         return Err(Refusal::BadText);
     };
-    let Some(amount) = parse_moved(amount) else {
+    let Some(amount) = parse_moved_amount(amount) else {
         return Err(Refusal::BadText);
     };
     Ok(Movement {

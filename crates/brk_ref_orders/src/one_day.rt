@@ -1,3 +1,5 @@
+//! The parser of the first day of one-day settlement.
+
 ghost use Rattle.std.specs.Prelude.{◌≡◌};
 ghost use Rattle.std.specs.Option.{ok_or};
 ghost use Rattle.brk_model.specs.Forms.{read_day};
@@ -7,7 +9,8 @@ ghost use Rattle.brk_ref.specs.Fields.{ParsesAs, texts_of_fields};
 
 use brk_money::{Day, Refusal, parse_day};
 
-fn calendar_day(bytes: &[u8]) -> Option<Day>
+// `parse_day`; its clause also states the limit of the day.
+fn parse_day_with_limit(bytes: &[u8]) -> Option<Day>
     ensures { ok_or result BadText ≡ read_day bytes.now }
 {
     let Some(day) = parse_day(bytes) else {
@@ -25,7 +28,7 @@ pub fn parse_one_day(fields: &[&[u8]]) -> Result<Day, Refusal>
     let [day] = fields else {
         return Err(Refusal::BadText);
     };
-    let Some(day) = calendar_day(day) else {
+    let Some(day) = parse_day_with_limit(day) else {
         return Err(Refusal::BadText);
     };
     Ok(day)

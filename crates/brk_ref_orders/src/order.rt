@@ -77,7 +77,8 @@ fn parse_executor(
     }))
 }
 
-fn market_type(order_type: OrderType, price: &[u8]) -> Result<OrderType, Refusal>
+// Refuses a price with `BadPrice`.
+fn market_type_without_price(order_type: OrderType, price: &[u8]) -> Result<OrderType, Refusal>
     ensures { result ≡ forms.market_type_if_price_is_empty order_type price.now }
 {
     if price.is_empty() {
@@ -111,8 +112,8 @@ fn order_type_with_price(kind: Option<TradeType>, price: &[u8]) -> Result<OrderT
     ensures { result ≡ forms.order_type_with_price kind price.now }
 {
     match kind {
-        Some(TradeType::MarketBuy) => market_type(OrderType::MarketBuy, price),
-        Some(TradeType::MarketSell) => market_type(OrderType::MarketSell, price),
+        Some(TradeType::MarketBuy) => market_type_without_price(OrderType::MarketBuy, price),
+        Some(TradeType::MarketSell) => market_type_without_price(OrderType::MarketSell, price),
         Some(TradeType::StopLoss) => Ok(OrderType::StopLoss(checked_price(price)?)),
         Some(TradeType::LimitSell) => Ok(OrderType::LimitSell(checked_price(price)?)),
         Some(TradeType::LimitBuy) => Ok(OrderType::LimitBuy(checked_price(price)?)),
@@ -120,7 +121,7 @@ fn order_type_with_price(kind: Option<TradeType>, price: &[u8]) -> Result<OrderT
     }
 }
 
-fn order_of_fields(alloc: Global, told: UnparsedOrder<'_>) -> Planned<Order, AllocError>
+fn parse_order_fields(alloc: Global, told: UnparsedOrder<'_>) -> Planned<Order, AllocError>
     ensures { IfOk result (λ read. ParsesAs abstract_order read (read_order (texts_of_order_fields told.entry))) }
 {
     let Some(account) = parse_id(told.account) else {
@@ -191,5 +192,5 @@ pub fn parse_trade_order(alloc: Global, fields: &[&[u8]]) -> Planned<Order, Allo
         last_name,
         tax_id,
     };
-    order_of_fields(alloc, told)
+    parse_order_fields(alloc, told)
 }

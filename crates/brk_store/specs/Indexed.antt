@@ -18,9 +18,8 @@ abbrev pub IsIndexOfTables : Option LotIndex → Tables → Type 0
 IsIndexOfTables None t = Unit {0}
 IsIndexOfTables (Some index) t = IsIndexOf index t.holdings
 
--- If `known` is true, the database of the connection has the tables of a desk with some rows, and the
--- index, if there is one, has exactly their lots. Vacuous if the disk assumption fails, or once the
--- database is closed.
+-- If `known`, the database has the tables of a desk, and the index, if there is one, has exactly
+-- their lots. Vacuous if the disk assumption fails, or once the database is closed.
 pub record IndexIsTrue {S : Type 0} (g : Ghosts S) (conn : Held S) (known : Bool) (index : Option LotIndex) : Type 0 where
   pub indexed : IsTrue known → HasCleanDisk (state g conn) → IsTrue (state g conn).is_open → (t : Tables) × HasDeskTables t (state g conn).now × IsIndexOfTables index t
 

@@ -9,11 +9,9 @@ use Rattle.brk_model.specs.Tables.{Tables}
 use Rattle.brk_tables_sql.proofs.Inside.{clean_before}
 use Rattle.brk_store_transactions.specs.Holds.{HoldsRows, ReadPost, WasOpenAndIsUnchanged}
 
--- The postcondition of any number of reads: the store holds the rows that it held before them; if
--- the database is open after them, it was open before and is unchanged; a crash after them exposes
--- only states that a crash before them could expose. The promises on the open database and on a
--- crash are vacuous if some disk read up to the end of the last call did not return what was
--- written.
+-- The postcondition of any number of reads: the store holds the rows that it held; a database that
+-- is open was open before and is unchanged; a crash exposes only prior crash states. The last two
+-- are vacuous if the disk assumption fails by the end of the last call.
 pub record IsUnchangedByReads {S : Type 0} (g : Ghosts S) (old new : Held S) : Type 0 where
   pub same_rows : (t : Tables) → HoldsRows g old t → HoldsRows g new t
   pub unchanged_if_open : HasCleanDisk (state g new) → IsTrue (state g new).is_open → WasOpenAndIsUnchanged (state g old) (state g new)
@@ -22,22 +20,19 @@ pub record IsUnchangedByReads {S : Type 0} (g : Ghosts S) (old new : Held S) : T
 -- The postcondition of a call that makes any number of reads, or none, and writes nothing.
 -- `Matches` relates the returned value to the rows that the store holds.
 pub record ReadSequencePost {S V E : Type 0} (g : Ghosts S) (old new : Held S) (result : Result V E) (Matches : V → Tables → Type 0) : Type 0 where
-  -- A returned value satisfies `Matches` with the rows that the store held before the call. Vacuous
-  -- if a disk read up to the call's return did not return what was written, or if the store was
-  -- open and satisfied `HasDeskTables` for no `t`. If the store was closed, a returned value
-  -- satisfies `Matches` with every `t`.
+  -- A value satisfies `Matches` with the rows held before the call. Vacuous if the disk assumption
+  -- fails by its return, or if the store was open and satisfied `HasDeskTables` for no `t`. If it
+  -- was closed, the value satisfies `Matches` with every `t`.
   pub answered : HasCleanDisk (state g new) → IfOk result (λ answer. (t : Tables) → HoldsRows g old t → Matches answer t)
   -- The call changes nothing (`IsUnchangedByReads`), whatever the result.
   pub unchanged : IsUnchangedByReads g old new
 
 module _ {S : Type 0} {g : Ghosts S} where
-  -- If the disk assumption holds after reads that satisfy `IsUnchangedByReads`, it held before
-  -- them.
+  -- If the disk assumption holds after such reads, it held before them.
   pub disk_was_clean_before_reads : (old new : Held S) → IsUnchangedByReads g old new → HasCleanDisk (state g new) → HasCleanDisk (state g old)
   disk_was_clean_before_reads old new k = clean_before (state g old) (state g new) (λ _. ⊥) k.survives
 
-  -- If reads that lead from `p` to `q` satisfy `IsUnchangedByReads`, and further reads from `q` to
-  -- `r` do, all of them together, from `p` to `r`, satisfy it.
+  -- Two such sequences of reads, from `p` to `q` and from `q` to `r`, are one from `p` to `r`.
   pub joined_reads_change_nothing : (p q r : Held S) → IsUnchangedByReads g p q → IsUnchangedByReads g q r → IsUnchangedByReads g p r
   joined_reads_change_nothing p q r a b = record {
     same_rows = λ t h. b.same_rows t (a.same_rows t h);
@@ -53,8 +48,7 @@ module _ {S : Type 0} {g : Ghosts S} where
       → IsUnchangedByReads g old new
   single_read_changes_nothing old new result Matches r = record { same_rows = r.same_rows; unchanged_if_open = r.unchanged_if_open; survives = r.survives }
 
--- The empty sequence of reads, after which the store is `old` as before, satisfies
--- `IsUnchangedByReads`.
+-- The empty sequence of reads satisfies `IsUnchangedByReads`.
 pub empty_read_sequence_changes_nothing : {S : Type 0} {g : Ghosts S} (old : Held S) → IsUnchangedByReads g old old
 empty_read_sequence_changes_nothing {S} {g} old = record {
   same_rows = λ t h. h;

@@ -18,10 +18,9 @@ borrowed_store p = p.store
 abbrev pub number_of_rows_read : {S P : Type 0} → Pages S P → ℕ
 number_of_rows_read p = p.read
 
--- For some rows `t` that the store of the source holds, `ls` are exactly the lots that the source
--- still has to return, in order. If the disk assumption fails, or the store is closed, the store
--- holds every `t`, so `ls` may be the lots of any rows. False if the store is open and satisfies
--- `HasDeskTables` for no `t`.
+-- For some rows `t` that the store holds, `ls` are exactly the lots that the source still has to
+-- return, in order. If the disk assumption fails or the store is closed, they may be of any rows.
+-- False if the store is open and satisfies `HasDeskTables` for no `t`.
 abbrev pub AreRemainingLots : {S : Type 0} → Ghosts S → Pages S Page → List Lot → Type 0
 AreRemainingLots g p ls =
     (t : Tables) × HoldsRows g p.store.now t

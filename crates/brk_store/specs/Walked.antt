@@ -1,8 +1,7 @@
 -- The postconditions of the walks of a store, which pass the rows of a list to a visitor or a
--- closure, one at a time. `brk_store_transactions/specs/Holds.antt` explains the terms of the
--- clauses. A clause with the premise `HasCleanDisk` for the new state, and the promise on crashes
--- in `survives`, are vacuous if some read up to the return of the call did not return what was
--- written.
+-- closure, one at a time. `brk_store_transactions/specs/Holds.antt` explains the terms. A clause
+-- with the premise `HasCleanDisk` for the new state, and the promise on crashes in `survives`, are
+-- vacuous if the disk assumption fails by the return of the call.
 use Rattle.std.specs.Prelude.{◌≡◌, ℕ, List, ◌++◌, filter, Result, Ok, Err, OnOk, IfErr, IsTrue}
 use Rattle.sqlite_trees.specs.declared.store.Store.{Ghosts}
 use Rattle.sqlite.specs.Held.{Held, state}
@@ -21,13 +20,11 @@ use Rattle.brk_tables_views.specs.declared.walking.WalkError.{WalkError}
 use Rattle.brk_tables_views.specs.declared.walking.WalkError.TheVariants.{Failed, Cause}
 use Rattle.brk_store_transactions.specs.Holds.{HoldsRows, WasOpenAndIsUnchanged}
 
--- The cash rows of `account` whose stamps are from `from` to `to`, both included, sorted by stamp,
--- ascending. Rows with equal stamps are in the order of the table CASH_MOVE.
+-- The cash rows of `account` with stamps `from` to `to`, both included, by stamp, then table order.
 abbrev pub cash_rows_in_span : ℕ → ℕ → ℕ → Tables → List CashRow
 cash_rows_in_span account from to t = filter (λ r. is_in_range from to r.stamp) (sorted_cash_rows_of_account t account)
 
--- The completed trades of all accounts, sorted by the stamp of completion, ascending. Trades with
--- equal stamps are in the order of the table TRADE.
+-- The completed trades of all accounts, sorted by completion stamp, then in the order of TRADE.
 abbrev pub completed_trades_by_stamp : Tables → List TradeRow
 completed_trades_by_stamp t = sort_by_key (λ r. r.stamp) (filter (λ r. is_same_trade_status r.status Completed) t.trades)
 
@@ -40,18 +37,16 @@ EqualsStoredList g store list all = (t : Tables) → HoldsRows g store t → all
 abbrev pub IsPrefixOfStoredList : {S M : Type 0} → Ghosts S → Held S → (Tables → List M) → List M → Type 0
 IsPrefixOfStoredList {S} {M} g store list first = (t : Tables) → HoldsRows g store t → (rest : List M) × (first ++ rest ≡ list t)
 
--- The postcondition of a walk, which passes the records that `list` selects from the rows of the
--- store to a visitor, in order and one at a time, and writes nothing. The walk ends after the last
--- record, at an error of the visitor, or at a fault. `of` converts a record that the visitor takes
--- to a row of the model. `takes` and `stops` relate the visitor before and after it takes a record
--- or returns an error for it; `before` and `after` are the visitor before and after the walk.
+-- The postcondition of a walk, which passes the records that `list` selects to a visitor, in order
+-- and one at a time, and writes nothing. It ends after the last record, at the visitor's error, or
+-- at a fault. `of` converts a record to a row of the model; `takes` and `stops` relate the visitor
+-- before and after it takes a record or stops at it; `before` and `after` are its states.
 pub record WalkPost {S X M V E : Type 0} (g : Ghosts S) (old new : Held S) (of : X → M) (list : Tables → List M) (takes : V → X → V → Type 0)
     (stops : V → X → E → V → Type 0)
     (before after : V) (result : Result (Unit {0}) (WalkError E)) : Type 0 where
   -- At `Ok` the visitor has taken every record.
   pub all : HasCleanDisk (state g new) → OnOk result (TakesListSatisfying (EqualsStoredList g old list) of takes before after)
-  -- At a fault the visitor has taken a prefix of the records. At an error of the visitor it has
-  -- taken the records before the one for which it returned the error.
+  -- The visitor took a prefix of the records: at its own error those before that record.
   pub early : HasCleanDisk (state g new) → IfErr result (TableWalkEndsEarly (IsPrefixOfStoredList g old list) of takes stops before after)
   -- An error of the visitor is one at which it stopped, whether or not the disk assumption holds.
   pub fault : IfErr result (IsWalkError stops after)
@@ -64,18 +59,16 @@ pub record WalkPost {S X M V E : Type 0} (g : Ghosts S) (old new : Held S) (of :
   -- A crash after the call exposes only states that a crash before the call could expose.
   pub survives : Survives (state g old) (state g new) (λ _. ⊥)
 
--- `result` is the result of a walk that calls a closure, if the walk with the closure as its
--- visitor has the given outcome: `Ok` for `Ok`, the closure's error for `Cause`, and for `Failed`
--- an error that `gives` relates to the fault.
+-- `result` is the result of a walk that calls a closure, if the walk has the given outcome: `Ok`,
+-- the closure's error for `Cause`, and for `Failed` an error that `gives` relates to the fault.
 abbrev pub MatchesWalkResult : {E : Type 0} → (Fault → E → Type 0) → Result (Unit {0}) (WalkError E) → Result (Unit {0}) E → Type 0
 MatchesWalkResult {E} gives (Ok u) result = result ≡ Ok tt
 MatchesWalkResult {E} gives (Err (Cause e)) result = result ≡ Err e
 MatchesWalkResult {E} gives (Err (Failed fault)) result = (e : E) × (result ≡ Err e) × gives (fault_of_call fault) e
 
--- The closure `call` was called with the records that `list` selects, in order and one at a time,
--- until it returned an error or the walk failed. The result is `Ok` after the last record,
--- otherwise the closure's error, or an error that `gives` relates to the fault. The calls, which
--- `called` specifies, satisfy `WalkPost` with the closure as the visitor.
+-- The closure `call` was called with the records that `list` selects, one at a time, in order. The
+-- result is `Ok` after the last one, otherwise the closure's error, or an error that `gives`
+-- relates to the fault of the walk. The calls satisfy `WalkPost` with the closure as the visitor.
 abbrev pub CallsClosureWithEachRecord : {S X M F E : Type 0} → Ghosts S → Held S → Held S → (X → M) → (Tables → List M)
     → (F → X → Result (Unit {0}) E → F → Type 0) → (Fault → E → Type 0) → F → Result (Unit {0}) E → Type 0
 CallsClosureWithEachRecord {S} {X} {M} {F} {E} g old new of list called gives call result =

@@ -44,15 +44,15 @@ impl<S: Alter> Store<S> {
         ensures read { ReadPost S.Store self.old self.new result (λ o t. option_map abstract_cash_row o ≡ slice_get (reverse t.moves) 0) }
     {
         let mut tx = begin_transaction(&mut self.conn);
-        brk_tables_cash::greatest_cash_row(&mut tx)
+        brk_tables_cash::cash_row_with_greatest_id(&mut tx)
     }
 
     // Reads each row of a deposit or a withdrawal, so its time grows with their number.
-    fn has_most_movements(&mut self) -> Result<bool, StoreFailed>
+    fn has_reached_movement_limit(&mut self) -> Result<bool, StoreFailed>
         ensures read { ReadPost S.Store self.old self.new result (λ all t. all ≡ nat_le greatest_id (length (filter (λ r. is_none r.trade) t.moves))) }
     {
         let mut tx = begin_transaction(&mut self.conn);
-        brk_tables_cash::has_most_movements(&mut tx)
+        brk_tables_cash::has_reached_movement_limit(&mut tx)
     }
 
     /// Returns the greatest number of a cash row plus 1, or 1 if there is no cash row. Fails with
@@ -82,7 +82,7 @@ impl<S: Alter> Store<S> {
         if next.get() < GREATEST_MOVEMENT_COUNT {
             return Ok((next, false));
         }
-        let has_reached_limit = self.has_most_movements()?;
+        let has_reached_limit = self.has_reached_movement_limit()?;
         Ok((next, has_reached_limit))
     }
 }

@@ -92,6 +92,7 @@ fn read_lot_index<S: Alter>(conn: &mut Connection<S>, alloc: Global) -> Result<L
     }
 }
 
+// The lot must also have been opened at `stamp`.
 fn is_lot_of_position(row: &HoldingRow, account: Id, symbol: &Symbol, stamp: Stamp) -> bool
     ensures { result ≡ ((row.now.account == account) && (bytes_eq row.now.symbol symbol.now && (row.now.stamp == stamp))) }
 {
@@ -118,6 +119,7 @@ fn read_lot_of_age<S: Alter>(
     Ok(row)
 }
 
+// Reads a page: at most 16 lots after the first `skipped`, in the order in which they are closed.
 fn read_lots_of_ages<S: Alter>(
     conn: &mut Connection<S>,
     alloc: Global,
@@ -143,7 +145,7 @@ fn read_lots_of_ages<S: Alter>(
     Ok(page)
 }
 
-fn read_page_of_ages<S: Alter>(
+fn read_indexed_page<S: Alter>(
     conn: &mut Connection<S>,
     alloc: Global,
     account: Id,
@@ -206,8 +208,9 @@ impl<S: Alter> Store<S> {
         }
     }
 
-    // Scans HOLDING if there is no index or the desk has few lots.
-    fn page_of_indexed_lots(
+    // Reads by the index, if there is one and the desk has more than `MOST_SCANNED_LOTS` lots;
+    // otherwise scans HOLDING.
+    fn page_with_prepared_index(
         &mut self,
         alloc: Global,
         account: Id,
@@ -221,14 +224,14 @@ impl<S: Alter> Store<S> {
         if self.known {
             if let Some(index) = &self.index {
                 if index.len() > MOST_SCANNED_LOTS {
-                    return read_page_of_ages(
+                    return read_indexed_page(
                         &mut self.conn,
                         alloc,
                         account,
                         symbol,
                         lifo,
                         skipped,
-                        index.lots(account, symbol),
+                        index.ages_of_position(account, symbol),
                     );
                 }
             }
@@ -248,6 +251,6 @@ impl<S: Alter> Store<S> {
             ≡ page_after_skipped skipped (lot_rows_in_closing_order lifo account symbol.now t)) }
     {
         self.prepare_index(alloc);
-        self.page_of_indexed_lots(alloc, account, symbol, lifo, skipped)
+        self.page_with_prepared_index(alloc, account, symbol, lifo, skipped)
     }
 }

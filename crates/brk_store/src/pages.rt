@@ -216,7 +216,8 @@ impl<S: Alter> Pages<'_, S, Page> {
         Ok(page)
     }
 
-    fn turn_page(&mut self) -> Result<Option<Lot>, CallFault>
+    // Reads the next page and returns its first lot, or `None` if no lot remains.
+    fn first_lot_of_next_page(&mut self) -> Result<Option<Lot>, CallFault>
         // All lots of the current page were returned.
         requires { length self.old.page.rows.items ≤ self.old.page.returned }
 
@@ -287,7 +288,7 @@ impl<S: Alter> LotSource for Pages<'_, S, Page> {
                 self.page.returned += 1;
                 Ok(Some(lot))
             }
-            None => match self.turn_page() {
+            None => match self.first_lot_of_next_page() {
                 Ok(given) => Ok(given),
                 Err(fault) => {
                     self.faults = self.faults.saturating_add(1);

@@ -1,7 +1,10 @@
+//! The store: its creation, the changes of its rows, and its connection; `adoption` opens an
+//! existing database.
+
 use crate::indexed::index_after_changes;
 use brk_money::Fault;
 use brk_store_lots::LotIndex;
-use brk_store_transactions::{apply_changes, create_tables_in_transaction};
+use brk_store_transactions::{apply_changes, create_tables_atomically};
 use brk_trade_rows::Change;
 use sqlite::{Alter, Connection};
 use std::marker::Model;
@@ -27,7 +30,8 @@ use std::marker::Model;
 /// the store, a crash may expose the changes of the call as committed.
 pub struct Store<S: Alter> {
     pub(crate) conn: Connection<S>,
-    // True only if the database, while it is open, has the tables of a desk with some rows.
+    // True only if the database, while it is open, has the tables of a desk with some rows. False also
+    // once the index could not be made.
     pub(crate) known: bool,
     // The index of the lots, or `None` if it was not made yet, or could not be kept.
     pub(crate) index: Option<LotIndex>,
@@ -83,7 +87,7 @@ impl<S: Alter> Store<S> {
         if !conn.is_autocommit() {
             return Err((conn, Fault::Store));
         }
-        match create_tables_in_transaction(&mut conn) {
+        match create_tables_atomically(&mut conn) {
             Ok(()) => Ok(Store {
                 conn,
                 known: true,

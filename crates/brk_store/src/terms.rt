@@ -1,8 +1,8 @@
-//! Reads of the rows on which the terms of an order depend: permissions, securities, charges, bands
-//! and taxes. Each read begins a transaction and ends it without a commit (no clause states this).
-//! A read fails with `Store` also if a row is malformed or if the `sqlite` crate runs out of
-//! memory, and a read of a single row also if its decoding does. A crash after a read exposes only
-//! states that a crash before it could expose.
+//! Reads of permissions, securities, charges, commission bands and taxes. Each read begins a
+//! transaction and ends it without a commit (no clause states this). A read fails with `Store` also
+//! if a row is malformed or if the `sqlite` crate runs out of memory, and a read of a single row
+//! also if its decoding does. A crash after a read exposes only states that a crash before it could
+//! expose.
 #![tactic(auto, using(brk_store_transactions::proofs::Ending::read_is_over, crate::proofs::KeptIndex::read_keeps_index))]
 
 ghost use Rattle.std.specs.Prelude.{◌==◌, ◌&&◌, bytes_eq};
@@ -86,7 +86,7 @@ impl<S: Alter> Store<S> {
             && (r.tax == tax))) }
     {
         let mut tx = begin_transaction(&mut self.conn);
-        brk_tables_reference::paid_tax(&mut tx, customer, tax)
+        brk_tables_reference::customer_tax_by_ids(&mut tx, customer, tax)
     }
 
     /// Returns a row of CUSTOMER_TAXRATE for each tax that the customer pays, sorted by the id of

@@ -13,8 +13,7 @@ use Rattle.brk_store_lots.specs.declared.index.LotIndex.{LotIndex}
 use Rattle.brk_store_lots.specs.declared.index.LotPlace.{LotPlace}
 use Rattle.brk_store_lots.specs.declared.positions.Positions.{Positions}
 
--- True if the lot of the age `a` was opened before that of the age `b`: at a smaller stamp, or at
--- the same stamp by a trade with a smaller id.
+-- True if the lot of the age `a` was opened before that of `b`: by stamp, then by trade id.
 abbrev pub is_older : LotAge → LotAge → Bool
 is_older a b = is_pair_less a.stamp b.stamp a.trade b.trade
 

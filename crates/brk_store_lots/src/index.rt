@@ -1,4 +1,4 @@
-//! The index, and the changes of it.
+//! The index of all lots: made of rows, updated by changes, and read by position.
 
 ghost use Rattle.std.specs.Prelude.{◌≡◌, ◌==◌, ◌∷◌, IfOk, List, OnOk, [], filter, map, not};
 ghost use Rattle.std.specs.Option.{option_copied};
@@ -105,6 +105,7 @@ impl LotIndex {
         Ok(())
     }
 
+    /// Creates the index of the lots `rows`. Fails also if two of them have one trade.
     pub fn of_rows(alloc: Global, rows: &[HoldingRow]) -> Result<LotIndex, IndexLost>
         ensures { IfOk result (λ index. IsIndexOf index (map abstract_holding_row rows.now)) }
     {
@@ -136,7 +137,7 @@ impl LotIndex {
     }
 
     /// Returns the ages of the lots of a position, the oldest first.
-    pub fn lots(&self, account: Id, symbol: &Symbol) -> Option<&VecDeque<LotAge>>
+    pub fn ages_of_position(&self, account: Id, symbol: &Symbol) -> Option<&VecDeque<LotAge>>
         ensures { ages_in (option_copied result) ≡ lots_at self.now account symbol.now }
     {
         self.positions.ages(account, symbol)

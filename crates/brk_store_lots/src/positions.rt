@@ -37,6 +37,7 @@ impl Positions {
         }
     }
 
+    // Removes the ages of a position, and returns them.
     pub(crate) fn take(&mut self, account: Id, symbol: &Symbol) -> Option<VecDeque<LotAge>>
         ensures taken { ages_in result ≡ ages_at self.old account symbol.now }
         ensures emptied { ages_at self.new account symbol.now ≡ [] }
@@ -48,6 +49,8 @@ impl Positions {
         }
     }
 
+    // Sets the ages of a position. After an error those of all positions of the account may be
+    // lost.
     pub(crate) fn put(
         &mut self,
         account: Id,

@@ -1,13 +1,13 @@
 -- Rows that must exist, because another row contains their key.
-use Rattle.std.specs.Prelude.{◌≡◌, ℕ, ◌==◌, find, Some, IfSome, pos}
+use Rattle.std.specs.Prelude.{◌≡◌, ℕ, ◌==◌, find, Some}
 use Rattle.brk_model.specs.Joins.{account_row_with_id, security_row_with_symbol}
 use Rattle.brk_model.specs.Tables.{Tables}
 use Rattle.brk_money.specs.Spelling.{Text}
-use Rattle.brk_ref.specs.Records.{abstract_account_row, abstract_customer, abstract_security_row}
+use Rattle.brk_ref.specs.Records.{abstract_account_row, abstract_broker_row, abstract_customer, abstract_security_row}
 use Rattle.brk_ref.specs.declared.account.AccountRow as ref
+use Rattle.brk_ref.specs.declared.broker.BrokerRow.{BrokerRow}
 use Rattle.brk_ref.specs.declared.customer.Customer.{Customer}
 use Rattle.brk_ref.specs.declared.security.Security.{Security}
-use Rattle.brk_trade_rows.specs.declared.broker_totals.BrokerTotals.{BrokerTotals}
 
 -- The first row of the customer with the id `id` in the tables `t` is `customer`.
 abbrev pub IsCustomerWithId : Tables → ℕ → Customer → Type 0
@@ -21,7 +21,6 @@ IsAccountWithId t id account = account_row_with_id t id ≡ Some (abstract_accou
 abbrev pub IsSecurityWithSymbol : Tables → Text → Security → Type 0
 IsSecurityWithSymbol t symbol security = security_row_with_symbol t symbol ≡ Some (abstract_security_row security)
 
--- The totals `numbers`, a number of completed trades and a sum of commissions in cents, are those in the
--- first row of the broker with the id `id` in the tables `t`. Vacuous if this broker does not exist.
-abbrev pub AreTotalsOfBroker : Tables → ℕ → BrokerTotals → Type 0
-AreTotalsOfBroker t id numbers = IfSome (find (λ r. r.id == id) t.brokers) (λ b. (pos numbers.trades ≡ b.trades) × (numbers.commissions ≡ b.commissions))
+-- The first row of the broker with the id `id` in the tables `t` is `broker`.
+abbrev pub IsBrokerWithId : Tables → ℕ → BrokerRow → Type 0
+IsBrokerWithId t id broker = find (λ r. r.id == id) t.brokers ≡ Some (abstract_broker_row broker)

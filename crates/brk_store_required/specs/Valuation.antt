@@ -6,19 +6,16 @@ use Rattle.brk_model.specs.Tables.{SummaryRow, Tables}
 use Rattle.brk_ref.specs.Rows.{abstract_summary_row}
 use Rattle.brk_store_required.specs.declared.valuation.ValuedSummaries.{ValuedSummaries}
 
--- The market value of a holding summary in cents: its number of shares times the last price of its
--- symbol (0 if there is none). It is below 0 for shares that were sold short.
+-- A summary's market value in cents: its shares, below 0 if sold short, times the last price or 0.
 abbrev pub market_value_of_summary : Tables → SummaryRow → ℤ
 market_value_of_summary t row = row.qty *ℤ pos (last_price_in_tables t row.symbol)
 
--- The market value of all holding summaries of the account `account`, at last prices, in cents.
--- Shares that were sold short count below 0.
+-- The market value of the account's holding summaries, at last prices, in cents; below 0 if short.
 abbrev pub market_value_of_account : Tables → ℕ → ℤ
 market_value_of_account t account = total_by (market_value_of_summary t) (filter (λ row. row.account == account) t.summaries)
 
--- The rows of `held` equal the holding summaries of the account `account` in the tables `t`, in the
--- order of the table, and `held.value` is the market value of these summaries at last prices, in
--- cents.
+-- The rows of `held` equal the account's holding summaries in the tables `t`, in table order, and
+-- `held.value` is their market value at last prices, in cents.
 pub record AreValuedSummariesOfAccount (t : Tables) (account : ℕ) (held : ValuedSummaries) : Type 0 where
   pub rows : map abstract_summary_row held.rows.items ≡ filter (λ r. r.account == account) t.summaries
   pub value : held.value ≡ market_value_of_account t account

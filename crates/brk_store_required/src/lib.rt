@@ -6,7 +6,7 @@ pub mod required;
 pub mod valuation;
 
 pub use required::{
-    require_account, require_broker_totals, require_customer, require_security, require_settlement,
+    require_account, require_broker, require_customer, require_security, require_settlement,
     require_tax, require_trade,
 };
 pub use valuation::{

@@ -6,13 +6,12 @@ ghost use Rattle.std.specs.Prelude.{◌≡◌, ◌==◌, Some, find};
 ghost use Rattle.brk_ref.specs.Rows.{abstract_settlement_row, abstract_trade_row};
 ghost use Rattle.brk_model.specs.Joins.{trade_row_with_id};
 ghost use Rattle.brk_ref.specs.Records.{abstract_tax_rate};
-ghost use Rattle.brk_store_required.specs.Required.{AreTotalsOfBroker, IsAccountWithId, IsCustomerWithId, IsSecurityWithSymbol};
+ghost use Rattle.brk_store_required.specs.Required.{IsAccountWithId, IsBrokerWithId, IsCustomerWithId, IsSecurityWithSymbol};
 ghost use Rattle.brk_store_transactions.specs.Holds.{ReadPost};
 
 use brk_money::{CallFault, Id};
-use brk_ref::{AccountRow, Customer, Security, SettlementRow, Symbol, Tax, TradeRow};
+use brk_ref::{AccountRow, BrokerRow, Customer, Security, SettlementRow, Symbol, Tax, TradeRow};
 use brk_store::Store;
-use brk_trade_rows::BrokerTotals;
 use sqlite::Alter;
 
 /// Returns the trade with the id.
@@ -82,16 +81,13 @@ pub fn require_settlement<S: Alter>(
     }
 }
 
-/// Returns the number of the broker's completed trades and their commissions in cents. Fails with
-/// `Store` also if a total is out of range.
-pub fn require_broker_totals<S: Alter>(
-    store: &mut Store<S>,
-    id: Id,
-) -> Result<BrokerTotals, CallFault>
-    ensures read { ReadPost S.Store store.old store.new result (λ numbers t. AreTotalsOfBroker t id numbers) }
+/// Returns the broker with the id, with the number of its completed trades and their commissions in
+/// cents.
+pub fn require_broker<S: Alter>(store: &mut Store<S>, id: Id) -> Result<BrokerRow, CallFault>
+    ensures read { ReadPost S.Store store.old store.new result (λ broker t. IsBrokerWithId t id broker) }
 {
-    match store.read_broker_totals(id)? {
-        Some(numbers) => Ok(numbers),
+    match store.broker(id)? {
+        Some(broker) => Ok(broker),
         None => Err(CallFault::Store),
     }
 }

@@ -1,6 +1,7 @@
-//! The market value of an account's holdings at last prices, in cents; shares that were sold short
-//! count below 0. A read fails with `Store` also if a held symbol has no last price or the value
-//! overflows. A crash after a read exposes only states that a crash before it could expose.
+//! The last price of a security, which must exist, and the market value of an account's holdings at
+//! last prices, in cents; shares that were sold short count below 0. A read fails with `Store` also
+//! if a held symbol has no last price or the value overflows. A crash after a read exposes only
+//! states that a crash before it could expose.
 
 ghost use Rattle.std.specs.Prelude.{◌≡◌, ◌+ℤ◌, ◌*ℤ◌, IfSome, pos};
 ghost use Rattle.brk_ref.specs.Rows.{abstract_summary_row};

@@ -1,10 +1,9 @@
--- The result of an audit of a database, and the postconditions of an audit and of an adoption. A
--- database has a schema (`DatabaseHasSchema`) if it has each table of the schema, with its name and
--- exactly its column names, no table that a later schema adds, and one row of the table DESK, with
--- the number of the schema. `brk_store_transactions/specs/Holds.antt` explains the other terms of
--- the clauses. A clause with the premise `HasCleanDisk` for the new state, and the promise on
--- crashes in `survives`, are vacuous if some read up to the return of the call did not return what
--- was written.
+-- The result of an audit of a database, and the postconditions of an audit and of an adoption, from
+-- `old` to `new`. A database has a schema (`DatabaseHasSchema`) if it has each table of the schema,
+-- by name and with exactly its column names, no table that a later schema adds, and one row of
+-- DESK, with the schema's number. `brk_store_transactions/specs/Holds.antt` explains the other
+-- terms. A clause with the premise `HasCleanDisk` for the new state, and the promise on crashes in
+-- `survives`, are vacuous if the disk assumption fails by the return of the call.
 use Rattle.std.specs.Prelude.{◌≡◌, ◌≢◌, ◌⊎◌, ⊤, Option, Some, None, Result, Ok, Err, OnOk, OnErr, IsTrue}
 use Rattle.sqlite_trees.specs.declared.store.Store.{Ghosts}
 use Rattle.sqlite_trees.specs.Tree.{Trees}
@@ -35,14 +34,12 @@ use Rattle.brk_store_transactions.specs.Holds.{IsDiskContentOfRows, HoldsRows, W
 
 -- ---- results of an audit
 
--- The database `db` contains the tables of `schema` with the rows `t`, whose texts are UTF-8.
--- `answer` is the result of the audit of `t` by the conditions of `schema`: the first condition
--- that `t` fails, or `None` if `t` passes.
+-- `answer` is the result of the audit of the rows `t` of the tables of `schema` in `db`, with texts
+-- in UTF-8: the first condition that they fail, or `None` if they pass.
 abbrev pub StoresRowsWithAuditResult : Schema → Tables → Database → Option Condition → Type 0
 StoresRowsWithAuditResult schema t db answer = HasDeskTablesInSchema schema t db × IsTrue (has_utf8_texts t) × IsAuditResult schema t answer
 
--- `answer` is the result of an audit of the database `db` by the conditions of the schema `schema`:
--- the first condition that the database fails, or `None` if it passes.
+-- `answer` is the audit result of `db` by `schema`: the first condition that fails, or `None`.
 abbrev pub IsDatabaseAuditResultBySchema : Schema → Database → Option Condition → Type 0
 -- An audit never returns `NotEmpty`, which only the creation of the tables returns.
 IsDatabaseAuditResultBySchema schema db (Some condition.NotEmpty) = ⊥
@@ -52,27 +49,23 @@ IsDatabaseAuditResultBySchema schema db (Some condition.Schema) = ¬ DatabaseHas
 -- schema with texts in UTF-8, or the audit of its rows returns `Form`.
 IsDatabaseAuditResultBySchema schema db (Some condition.Form) =
     DatabaseHasSchema schema db × ((t : Tables) → HasDeskTablesInSchema schema t db → IsTrue (has_utf8_texts t) → IsAuditResult schema t (Some condition.Form))
--- Any other result, `None` included, is the result of the audit of the rows that the database
--- contains.
+-- Any other result, `None` included, is the audit result of the rows in the database.
 IsDatabaseAuditResultBySchema schema db answer = (t : Tables) × StoresRowsWithAuditResult schema t db answer
 
--- `Some schema`: the database `db` has this schema (`DatabaseHasSchema`). `None`: it has none of
--- the three schemas.
+-- `Some schema`: `db` has this schema (`DatabaseHasSchema`). `None`: it has none of the three.
 abbrev pub IsSchemaOfDatabase : Option typed_schema.Schema → Database → Type 0
 IsSchemaOfDatabase (Some schema) db = DatabaseHasSchema (abstract_schema schema) db
 IsSchemaOfDatabase None db = (schema : typed_schema.Schema) → ¬ DatabaseHasSchema (abstract_schema schema) db
 
--- `answer` is the result of an audit of the database `db` by the conditions of the schema that it
--- has: the first condition that it fails, or `None` if it passes. The result is never `NotEmpty`,
--- and it is `Schema` if and only if the database has none of the three schemas.
+-- `answer` is the result of an audit of `db` by its own schema: the first condition that fails, or
+-- `None`. Never `NotEmpty`; `Schema` if and only if the database has none of the three schemas.
 abbrev pub IsDatabaseAuditResult : Database → Option Condition → Type 0
 IsDatabaseAuditResult db (Some condition.NotEmpty) = ⊥
 IsDatabaseAuditResult db (Some condition.Schema) = IsSchemaOfDatabase None db
 IsDatabaseAuditResult db answer = (schema : typed_schema.Schema) × IsDatabaseAuditResultBySchema (abstract_schema schema) db answer
 
--- `P` holds of the first condition that failed in the audit of a call with this result: of `None`
--- at `Ok`, and of the condition at `Damaged`. Vacuous at `Memory` and `Store`, which say nothing
--- about the database.
+-- `P` holds of the audit's answer: of `None` at `Ok`, and of the condition at `Damaged`. Vacuous at
+-- `Memory` and `Store`, which say nothing about the database.
 abbrev pub AuditAnswerSatisfies : Result (Unit {0}) Fault → (Option Condition → Type 0) → Type 0
 AuditAnswerSatisfies (Ok x) P = P None
 AuditAnswerSatisfies (Err (Damaged failing)) P = P (Some failing)
@@ -81,11 +74,10 @@ AuditAnswerSatisfies (Err Store) P = ⊤
 
 -- ---- premises on the database
 
--- For each schema: if the current database of the connection `held` has all tables of the schema,
--- by name and with exactly their column names, they satisfy `HasDeskDefinitions`, with a desk's
--- types, keys and foreign keys (`TablesWithDeskNamesAreDeskTables`). A database without these
--- tables, for example an empty one, satisfies this premise. Vacuous if the disk assumption fails,
--- or once the database is closed.
+-- For each schema: if the current database of `held` has all its tables, by name and with exactly
+-- their column names, they satisfy `HasDeskDefinitions`: a desk's types, keys and foreign keys. A
+-- database without these tables, such as an empty one, satisfies this premise. Vacuous if the disk
+-- assumption fails, or once the database is closed.
 abbrev pub ConnectionTablesWithDeskNamesAreDeskTables : {S : Type 0} → Ghosts S → Held S → Type 0
 ConnectionTablesWithDeskNamesAreDeskTables g held =
     HasCleanDisk (state g held) → IsTrue (state g held).is_open → TablesWithDeskNamesAreDeskTables (state g held).now
@@ -102,11 +94,9 @@ ConnectionHasThirdSchema g held = HasCleanDisk (state g held) → IsTrue (state 
 
 -- ---- an audit
 
--- The postcondition of an audit by the conditions of schema 3, which writes nothing: `old` is the
--- connection before the call, and `new` after it.
+-- The postcondition of an audit by the conditions of schema 3, which writes nothing.
 pub record AuditPost {S : Type 0} (g : Ghosts S) (old new : Held S) (result : Result (Unit {0}) Fault) : Type 0 where
-  -- `Ok` is returned only if the rows pass the audit, and `Damaged` only with the first condition
-  -- that fails.
+  -- `Ok` only if the rows pass the audit, `Damaged` only with the first condition that fails.
   pub answered : HasCleanDisk (state g new) → ConnectionTablesWithThirdSchemaNamesAreDeskTables g old
       → AuditAnswerSatisfies result (IsDatabaseAuditResultBySchema third_schema (state g old).now)
   -- `Ok` and `Damaged` are returned only if the database was open before the call.
@@ -120,31 +110,27 @@ pub record AuditPost {S : Type 0} (g : Ghosts S) (old new : Held S) (result : Re
 
 -- ---- an adoption
 
--- The database `db` contains the tables of some schema with rows that pass the audit of this schema
--- and whose texts are UTF-8. The database `after` contains the tables of schema 3 with the rows of
--- the base that these rows determine. Every other table of `db` is in `after`, and its rows are
--- unchanged, unless a foreign key of this table may change or delete them by CASCADE, SET NULL or
--- SET DEFAULT.
+-- `db` contains the tables of some schema with rows that pass its audit, in UTF-8; `after` contains
+-- the tables of schema 3 with the rows of the base that they determine. Every other table of `db`
+-- is in `after`, its rows unchanged unless its own foreign key may change or delete them by
+-- CASCADE, SET NULL or SET DEFAULT.
 abbrev pub UpgradesAuditedRows : Database → Database → Type 0
 UpgradesAuditedRows db after =
     (schema : typed_schema.Schema) × (t : Tables) × (passed : StoresRowsWithAuditResult (abstract_schema schema) t db None)
     × HasDeskTables (sheets (base_of_tables t)) after × PreservesTablesOutside (IsTableOfSchema (abstract_schema schema)) passed.0.0 db after
 
--- The disk contents `trees` are what the upgrade of the database `db` from a schema older than 3
--- writes (`UpgradesAuditedRows`).
+-- `trees` are what the upgrade of `db` from an older schema writes (`UpgradesAuditedRows`).
 abbrev pub IsUpgradedDiskContent : Database → Trees → Type 0
 IsUpgradedDiskContent db trees =
     (schema : typed_schema.Schema) × (t : Tables) × (schema ≢ Third) × StoresRowsWithAuditResult (abstract_schema schema) t db None
     × IsDiskContentOfRows (sheets (base_of_tables t)) trees
 
--- The postcondition of an adoption: an audit by the conditions of the schema that the database has
--- and, at `Ok`, a store that holds the rows, converted to schema 3. `old` is the connection before
--- the call, and `new` the connection or the store after it. The clauses with the premise
--- `ConnectionTablesWithDeskNamesAreDeskTables` promise nothing of a database whose tables have the
--- names and column names of a desk's, but not `HasDeskDefinitions`.
+-- The postcondition of an adoption: an audit by the schema that the database has and, at `Ok`, a
+-- store that holds the rows, converted to schema 3 (`new`). Clauses with the premise
+-- `ConnectionTablesWithDeskNamesAreDeskTables` promise nothing of a database whose tables have a
+-- desk's names and column names, but not `HasDeskDefinitions`.
 pub record AdoptPost {S : Type 0} (g : Ghosts S) (old new : Held S) (result : Result (Unit {0}) Fault) : Type 0 where
-  -- `Ok` is returned only if the rows pass the audit, and `Damaged` only with the first condition
-  -- that fails.
+  -- `Ok` only if the rows pass the audit, `Damaged` only with the first condition that fails.
   pub answered : HasCleanDisk (state g new) → ConnectionTablesWithDeskNamesAreDeskTables g old
       → AuditAnswerSatisfies result (IsDatabaseAuditResult (state g old).now)
   -- `Ok` and `Damaged` are returned only if the database was open before the call.
@@ -152,34 +138,28 @@ pub record AdoptPost {S : Type 0} (g : Ghosts S) (old new : Held S) (result : Re
   -- At `Ok` the store holds rows that pass the audit of schema 3, with texts in UTF-8.
   pub adopted : ConnectionTablesWithDeskNamesAreDeskTables g old
       → OnOk result ((t : Tables) × HoldsRows g new t × PassesAudit third_schema t × IsTrue (has_utf8_texts t))
-  -- At `Ok`, if the store is open, the old rows passed the audit of their schema, the database
-  -- contains the tables of the base that they determine, next to its other tables
-  -- (`UpgradesAuditedRows`), and its current state is committed.
+  -- At `Ok`, if the store is open, the old rows passed their audit, and the database contains the
+  -- tables of the base that they determine, next to its others (`UpgradesAuditedRows`), committed.
   pub upgraded : HasCleanDisk (state g new) → IsTrue (state g new).is_open → ConnectionTablesWithDeskNamesAreDeskTables g old
       → OnOk result (UpgradesAuditedRows (state g old).now (state g new).now × ((state g new).committed ≡ (state g new).now))
-  -- At `Ok` of an upgrade the store is open. For a database of schema 3 no clause promises it, as
-  -- for a read (`ReadPost`).
+  -- After an upgrade the store is open; at schema 3, as for a read (`ReadPost`), it need not be.
   pub open_after_upgrade : HasCleanDisk (state g new) → ConnectionTablesWithDeskNamesAreDeskTables g old
       → OnOk result (ConnectionHasThirdSchema g old ⊎ IsTrue (state g new).is_open)
   -- At an error: if the database is open after the call, it was open before and is unchanged.
   pub unchanged_if_open : HasCleanDisk (state g new) → IsTrue (state g new).is_open → OnErr result (WasOpenAndIsUnchanged (state g old) (state g new))
-  -- A crash after the call exposes a state that a crash before the call could expose or, if the
-  -- rows of an older schema pass their audit, the tables after the upgrade to schema 3.
+  -- A crash exposes a prior crash state or, if an older schema's rows pass, the upgraded tables.
   pub survives : ConnectionTablesWithDeskNamesAreDeskTables g old → Survives (state g old) (state g new) (IsUpgradedDiskContent (state g old).now)
-  -- If the database had schema 3, the adoption satisfies the postcondition of an audit by schema 3,
-  -- which writes nothing.
+  -- At schema 3 the adoption satisfies the postcondition of an audit, which writes nothing.
   pub audited : ConnectionTablesWithDeskNamesAreDeskTables g old → ConnectionHasThirdSchema g old → AuditPost g old new result
 
--- The base satisfies the books invariant and the audit invariant, and the texts of its tables are
--- UTF-8.
+-- The base satisfies the books and the audit invariant, and its tables' texts are UTF-8.
 pub record IsConsistent (base : Base) : Type 0 where
   pub books : BooksInvariant base
   pub sound : AuditInvariant base
   pub texts : IsTrue (has_utf8_texts (sheets base))
 
--- The abstraction relation: the store holds the tables of `base`, and `base` is consistent. The
--- clause on the rows is vacuous if the disk assumption fails, or once the store is closed; then the
--- store represents every consistent base.
+-- The abstraction relation: the store holds the tables of `base`, and `base` is consistent. If the
+-- disk assumption fails, or the store is closed, it represents every consistent base.
 pub record Represents {S : Type 0} (g : Ghosts S) (store : Held S) (base : Base) : Type 0 where
   pub rows : HoldsRows g store (sheets base)
   pub consistent : IsConsistent base

@@ -1,4 +1,5 @@
-//! The audit of rows by the conditions of a schema, and of a database by those of schema 3.
+//! The audit of rows by the conditions of a schema, and of a database by those of schema 3;
+//! `examining` audits a database by the schema that it has.
 
 ghost use Rattle.std.specs.Prelude.{◌≡◌, ◌≢◌, IfErr, IfOk, IsTrue, Some, false};
 ghost use Rattle.brk_money.specs.declared.fault.Condition.TheVariants.{NotEmpty};
@@ -39,7 +40,7 @@ pub(crate) fn audit_rows_of_schema<S: Alter>(
     }
 }
 
-fn first_failing_condition<S: Alter>(
+fn audit_by_third_schema<S: Alter>(
     tx: &mut Transaction<'_, S>,
     alloc: Global,
 ) -> Result<Option<Condition>, CallFault>
@@ -65,7 +66,7 @@ pub fn audit_database<S: Alter>(conn: &mut Connection<S>, alloc: Global) -> Resu
     ensures condition { IfErr result (λ f. f ≢ fault.Damaged NotEmpty) }
 {
     let mut tx = begin_transaction(conn);
-    match first_failing_condition(&mut tx, alloc)? {
+    match audit_by_third_schema(&mut tx, alloc)? {
         None => Ok(()),
         Some(condition) => Err(Fault::Damaged(condition)),
     }

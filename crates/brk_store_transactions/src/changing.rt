@@ -133,7 +133,7 @@ pub fn apply_changes<S: Alter>(
 ///
 /// Fails with `Damaged(NotEmpty)`, only if a table with the name of a desk's table exists, or with
 /// `Store`. A crash after `Ok` exposes the tables.
-pub fn create_tables_in_transaction<S: Alter>(conn: &mut Connection<S>) -> Result<(), Fault>
+pub fn create_tables_atomically<S: Alter>(conn: &mut Connection<S>) -> Result<(), Fault>
     requires { conn.old.in_transaction ≡ false }
     ensures mode { conn.new.in_transaction ≡ false }
     ensures created { CreatePost S.Store conn.old conn.new result }

@@ -41,8 +41,9 @@ fn schema_of_database<S: Alter>(tx: &mut Transaction<'_, S>) -> Result<Option<Sc
     Ok(None)
 }
 
-/// Returns `Fails` with `Schema` if the database has none of the three schemas.
-pub(crate) fn audit_by_own_schema<S: Alter>(
+/// Audits the rows by the conditions of the schema that the database has. Returns `Fails` with
+/// `Schema` if it has none of the three.
+pub(crate) fn audit_by_database_schema<S: Alter>(
     tx: &mut Transaction<'_, S>,
     alloc: Global,
 ) -> Result<AuditResult, CallFault>

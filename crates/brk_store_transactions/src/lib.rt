@@ -12,5 +12,5 @@ mod upgrading;
 
 pub use auditing::audit_database;
 pub use beginning::begin_transaction;
-pub use changing::{apply_changes, create_tables_in_transaction};
+pub use changing::{apply_changes, create_tables_atomically};
 pub use upgrading::audit_and_upgrade_database;

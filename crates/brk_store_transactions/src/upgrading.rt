@@ -6,7 +6,7 @@ ghost use Rattle.brk_money.specs.declared.fault.Fault.TheVariants as fault;
 ghost use Rattle.brk_store_transactions.specs.Audited.{AdoptPost};
 
 use crate::beginning::begin_transaction;
-use crate::examining::{AuditResult, audit_by_own_schema};
+use crate::examining::{AuditResult, audit_by_database_schema};
 use brk_money::Fault;
 use brk_tables::upgrade_tables;
 use sqlite::{Alter, Connection};
@@ -28,7 +28,7 @@ pub fn audit_and_upgrade_database<S: Alter>(
     ensures condition { IfErr result (λ f. f ≢ fault.Damaged NotEmpty) }
 {
     let mut tx = begin_transaction(conn);
-    let schema = match audit_by_own_schema(&mut tx, alloc)? {
+    let schema = match audit_by_database_schema(&mut tx, alloc)? {
         AuditResult::Fails(condition) => return Err(Fault::Damaged(condition)),
         AuditResult::Passes(schema) => schema,
     };

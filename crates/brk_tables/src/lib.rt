@@ -18,13 +18,13 @@ pub mod making;
 pub mod upgrade;
 
 pub use brk_tables_cash::{
-    add_cash_row, cash_row_by_trade, greatest_cash_row, has_most_movements, one_day_start,
-    set_cash_row_name, set_one_day_start,
+    add_cash_row, cash_row_by_trade, cash_row_with_greatest_id, has_reached_movement_limit,
+    one_day_start, set_cash_row_name, set_one_day_start,
 };
 pub use brk_tables_reference::{
     account_by_id, accounts_of_customer, add_account, add_band, add_broker, add_charge,
     add_customer, add_customer_tax, add_last_trade, add_permission, add_security, add_tax_rate,
-    bands_for, broker_by_id, charge_for, customer_by_id, customer_by_tax_id, paid_tax,
+    bands_for, broker_by_id, charge_for, customer_by_id, customer_by_tax_id, customer_tax_by_ids,
     permission_for, security_by_symbol, tax_rate_by_id, taxes_of_customer,
 };
 pub use brk_tables_scan::{database_has_schema, has_some_desk_table, read_sheets, rows};

@@ -14,19 +14,16 @@ use Rattle.brk_tables_schema.specs.Desk.{DeskTable, desk_tables, desk_tables_of_
 use Rattle.brk_tables_schema.specs.Made.{IsTableOfSchema, LacksOtherDeskTables}
 use Rattle.brk_tables_cash.specs.UpgradeStatements.{tables_without_cash_transactions}
 
--- The rows of CASH_TRANSACTION, sorted by stamp, ascending. Rows with equal stamps are in the order
--- of the table.
+-- The rows of CASH_TRANSACTION, sorted by stamp, then in table order.
 abbrev pub cash_transactions_by_stamp : Tables → List OldCashRow
 cash_transactions_by_stamp t = sort_by_key (λ r. r.stamp) t.cash
 
--- The tables `t` with the row `c` of CASH_TRANSACTION inserted into CASH_MOVE under the number
--- `id`, with the account of its trade (0 if the trade does not exist).
+-- `t` with `c` of CASH_TRANSACTION in CASH_MOVE as number `id`, at the account of its trade, or 0.
 abbrev pub tables_with_numbered_cash_row : ℕ → OldCashRow → Tables → Tables
 tables_with_numbered_cash_row id c t = tables_with_cash_row (cash_move_row id (posting_of_cash_transaction_row t c)) t
 
--- The tables `t` with the given rows of CASH_TRANSACTION inserted into CASH_MOVE, in order, under
--- the numbers `n`, `n + 1` and so on, each with the account of its trade
--- (`tables_with_numbered_cash_row`).
+-- `t` with the given rows of CASH_TRANSACTION inserted into CASH_MOVE, in order, under the numbers
+-- `n`, `n + 1` and so on (`tables_with_numbered_cash_row`).
 abbrev pub tables_with_cash_rows_numbered_from : ℕ → List OldCashRow → Tables → Tables
 tables_with_cash_rows_numbered_from n [] t = t
 tables_with_cash_rows_numbered_from n (c ∷ cs) t = tables_with_cash_rows_numbered_from (n + 1) cs (tables_with_numbered_cash_row n c t)
@@ -45,9 +42,8 @@ pub record PreservesTablesOutside (In : DeskTable → Type 0) (tree : DeskTable 
   pub rows : AllByRecursion (λ k. ((w : DeskTable) → In w → k.tree ≢ tree w) → HasNoWritingForeignKeysAt old.schema k.tree
       → new.trees k.tree ≡ old.trees k.tree) old.schema.tables
 
--- The database `new` contains the tables of schema 3 with the rows `t`. Each table of `old` that is
--- at no tree `before w` of a table `w` of the schema `desk_before` is unchanged, unless a foreign
--- key of this table changes or deletes its rows (`PreservesTablesOutside`).
+-- `new` contains the tables of schema 3 with the rows `t`. Tables of `old` outside the trees
+-- `before` are unchanged, unless their own foreign keys change rows (`PreservesTablesOutside`).
 pub record HasUpgradedTables (desk_before : Schema) (before : DeskTable → ℕ) (t : Tables) (old new : Database) : Type 0 where
   pub tree : DeskTable → ℕ
   pub rows : HasTables desk_tables t tree new
@@ -57,10 +53,9 @@ pub record HasUpgradedTables (desk_before : Schema) (before : DeskTable → ℕ)
   -- If no foreign key of a table at a tree changes or deletes rows in `old`, none does in `new`.
   pub keys_write_nothing : (tree : ℕ) → HasNoWritingForeignKeysAt old.schema tree → HasNoWritingForeignKeysAt new.schema tree
 
--- If the database `old` contains the tables of `schema` with the rows `t`, and both `old` and `t`
--- lack the tables that a later schema adds (`LacksOtherDeskTables`), `new` contains the tables of
--- schema 3 with the rows `t`. Other tables are unchanged, unless a foreign key of their own changes
--- or deletes their rows (`HasUpgradedTables`). Vacuous otherwise.
+-- If `old` contains the tables of `schema` with the rows `t`, and lacks those that later schemas
+-- add (`LacksOtherDeskTables`), `new` contains the tables of schema 3 with `t`, and others are
+-- unchanged, unless their own foreign keys change rows (`HasUpgradedTables`). Vacuous otherwise.
 abbrev pub AddsTablesOfLaterSchemas : Schema → Database → Database → Type 0
 AddsTablesOfLaterSchemas schema old new =
     (t : Tables) (tree : DeskTable → ℕ) → HasSelectedTables (desk_tables_of_schema schema) (IsTableOfSchema schema) t tree old

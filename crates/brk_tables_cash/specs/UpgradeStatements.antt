@@ -10,11 +10,10 @@ use Rattle.brk_tables_schema.specs.Desk.{DeskTable, desk_tables, desk_tables_of_
 abbrev pub tables_without_cash_transactions : Tables → Tables
 tables_without_cash_transactions t = record t { cash = [] }
 
--- If the database `old` contains all tables of a desk with the rows `t` and the number of some
--- schema, `new` contains them with the rows `t` and the number 3, at the same trees. The SQLite
--- schema is unchanged, and so are other tables, unless a foreign key of their own changes or
--- deletes their rows (`PreservesUnrelatedTables`). Vacuous if `old` does not contain all tables of
--- a desk.
+-- If `old` contains all tables of a desk with the rows `t` and some schema number, `new` contains
+-- them, at the same trees, with the rows `t` and the number 3; the SQLite schema and other tables
+-- are unchanged, unless a foreign key of their own changes or deletes rows
+-- (`PreservesUnrelatedTables`). Vacuous otherwise.
 abbrev pub SetsSchemaNumberToThree : Database → Database → Type 0
 SetsSchemaNumberToThree old new =
     (schema : Schema) (t : Tables) (tree : DeskTable → ℕ) → HasTables (desk_tables_of_schema schema) t tree old

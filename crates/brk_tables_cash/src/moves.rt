@@ -37,7 +37,7 @@ pub fn add_cash_row<S: Alter>(tx: &mut Transaction<'_, S>, row: &CashRow) -> Res
     )
 }
 
-pub fn greatest_cash_row<S: Alter>(
+pub fn cash_row_with_greatest_id<S: Alter>(
     tx: &mut Transaction<'_, S>,
 ) -> Result<Option<CashRow>, StoreFailed>
     ensures same_reference { tx.new.conn.ghost_name ≡ tx.old.conn.ghost_name }
@@ -53,7 +53,9 @@ pub fn greatest_cash_row<S: Alter>(
 
 /// Returns true if CASH_MOVE has at least 10^12 rows without a trade, which are the deposits and
 /// withdrawals. The query steps over these rows, so its time grows with their number.
-pub fn has_most_movements<S: Alter>(tx: &mut Transaction<'_, S>) -> Result<bool, StoreFailed>
+pub fn has_reached_movement_limit<S: Alter>(
+    tx: &mut Transaction<'_, S>,
+) -> Result<bool, StoreFailed>
     ensures same_reference { tx.new.conn.ghost_name ≡ tx.old.conn.ghost_name }
     ensures step { ReadsDeskTables S.Store tx.old tx.new result (λ all t. all ≡ nat_le greatest_id (length (filter (λ r. is_none r.trade) t.moves))) }
 {

@@ -1,4 +1,4 @@
-//! The row of SETTLE_RULE.
+//! The row of SETTLE_RULE: the first day of one-day settlement.
 
 ghost use Rattle.std.specs.Prelude.{◌≡◌, IfOk, map};
 ghost use Rattle.brk_trade_rows.specs.Changes.{tables_with_one_day_settlement_start};
@@ -8,7 +8,7 @@ ghost use Rattle.brk_tables_schema.specs.Statements.{ReadsDeskTables, WritesDesk
 
 use brk_money::{Day, StoreFailed};
 use brk_tables_schema::calls::{execute_statement, select_rows};
-use brk_tables_schema::rule_row::start_in_rule_rows;
+use brk_tables_schema::rule_row::one_day_start_in_rule_rows;
 use brk_tables_schema::values::{day_param, integer_param};
 use sqlite::{Alter, Row, Transaction};
 
@@ -25,10 +25,10 @@ pub fn set_one_day_start<S: Alter>(tx: &mut Transaction<'_, S>, day: Day) -> Res
     )
 }
 
-fn start_in_rows(rows: &[Row]) -> Result<Option<Day>, StoreFailed>
+fn one_day_start_in_rows(rows: &[Row]) -> Result<Option<Day>, StoreFailed>
     ensures value { IfOk result (λ day. map rule_cells (rule_rows day) ≡ rows.now) }
 {
-    Ok(start_in_rule_rows(rows)?)
+    Ok(one_day_start_in_rule_rows(rows)?)
 }
 
 /// Returns the first day of one-day settlement (SR_DAY), in days since 1970-01-01, or `None` if
@@ -42,5 +42,5 @@ pub fn one_day_start<S: Alter>(tx: &mut Transaction<'_, S>) -> Result<Option<Day
         "SELECT SR_ID, SR_DAY FROM SETTLE_RULE ORDER BY SR_ID",
         &[],
     )?;
-    start_in_rows(&rows)
+    one_day_start_in_rows(&rows)
 }

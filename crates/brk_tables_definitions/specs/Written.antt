@@ -10,8 +10,7 @@ use Rattle.sqlite_schema.specs.declared.schema.Table.{Table}
 use Rattle.brk_tables_sql.specs.Desk.{foreign_key, table_without_checks}
 use Rattle.brk_tables_definitions.specs.declared.definition.Definition.{Definition}
 
--- The column of a STRICT table with this name and of this kind, NOT NULL if `not_null`, without a
--- default, and with the collation BINARY.
+-- A column of a STRICT table, NOT NULL if `not_null`, without default, with the collation BINARY.
 abbrev pub strict_column : List ℕ → Kind → Bool → Column
 strict_column name kind not_null = record { name = name; kind = kind; is_strict = true; not_null = not_null; default = Null; collation = Binary }
 
@@ -19,8 +18,7 @@ strict_column name kind not_null = record { name = name; kind = kind; is_strict 
 abbrev pub column_of_definition : Bor (List ℕ) × Kind × Bool → Column
 column_of_definition column = strict_column column.0.now column.1 column.2
 
--- The foreign key that a definition stands for: the place of its column in a stored row, and the
--- table and the column that it refers to.
+-- The foreign key of a definition: the place of its column in a stored row, and what it refers to.
 abbrev pub reference_of_definition : ℕ × Bor (List ℕ) × Bor (List ℕ) → Reference
 reference_of_definition reference = foreign_key reference.0 reference.1.now reference.2.now
 

@@ -42,7 +42,7 @@ fn has_definition(table: &Table, definition: &Definition) -> bool
 }
 
 // Returns true also if `schema` has no table of this name.
-fn has_only_definition(schema: &Schema, definition: &Definition) -> bool
+fn has_no_other_definition(schema: &Schema, definition: &Definition) -> bool
     ensures { IsTrue result ↔ HasOnlyDefinition schema.now (table_of_definition definition.now) }
 {
     let Some(at) = schema.table_named(definition.name.as_bytes()) else {
@@ -54,12 +54,12 @@ fn has_only_definition(schema: &Schema, definition: &Definition) -> bool
     }
 }
 
-fn has_only_definitions(schema: &Schema, definitions: &[Definition]) -> bool
+fn has_no_other_definitions(schema: &Schema, definitions: &[Definition]) -> bool
     ensures { IsTrue result ↔ All (λ definition. HasOnlyDefinition schema.now (table_of_definition definition)) definitions.now }
 {
     definitions
         .iter()
-        .all(|definition| has_only_definition(schema, definition))
+        .all(|definition| has_no_other_definition(schema, definition))
 }
 
 fn desk_definitions() -> &'static [Definition]
@@ -68,8 +68,9 @@ fn desk_definitions() -> &'static [Definition]
     &DEFINITIONS
 }
 
+// Returns true also if tables are missing.
 pub(crate) fn has_definitions_of_desk(schema: &Schema) -> bool
     ensures { IsTrue result ↔ ((w : DeskTable) → IsDefinedAsDeskDefines schema.now w) }
 {
-    has_only_definitions(schema, desk_definitions())
+    has_no_other_definitions(schema, desk_definitions())
 }

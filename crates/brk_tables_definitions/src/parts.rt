@@ -1,4 +1,5 @@
-//! The comparison of the parts of a table with those of a definition.
+//! The comparison of the columns, the foreign keys, the UNIQUE constraints and their orders of a
+//! table with those of a definition, and the test that it has no expressions.
 
 ghost use Rattle.std.specs.Borrow.{Bor};
 ghost use Rattle.std.specs.Prelude.{◌≡◌, ◌↔◌, ◌∷◌, ℕ, List, [], IsTrue, map};
@@ -86,6 +87,7 @@ pub(crate) fn references_are(references: &[Reference], definitions: &[ReferenceD
     true
 }
 
+// Compares the places of UNIQUE constraints, in order.
 pub(crate) fn place_lists_are(lists: &[Items<usize>], definitions: &[&[usize]]) -> bool
     ensures { IsTrue result ↔ (lists.now ≡ map (λ (places : Bor (List ℕ)). places.now) definitions.now) }
 {

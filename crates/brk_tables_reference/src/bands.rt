@@ -1,3 +1,5 @@
+//! Commission bands (COMMISSION_RATE).
+
 ghost use Rattle.std.specs.Prelude.{◌≡◌, ◌==◌, ◌&&◌, bytes_eq};
 ghost use Rattle.brk_money.specs.Kinds.{is_same_trade_type};
 ghost use Rattle.brk_ref.specs.Records.{abstract_band};

@@ -22,4 +22,6 @@ pub use charges::{add_charge, charge_for};
 pub use customers::{add_customer, customer_by_id, customer_by_tax_id};
 pub use permissions::{add_permission, permission_for};
 pub use securities::{add_last_trade, add_security, security_by_symbol};
-pub use tax_rates::{add_customer_tax, add_tax_rate, paid_tax, tax_rate_by_id, taxes_of_customer};
+pub use tax_rates::{
+    add_customer_tax, add_tax_rate, customer_tax_by_ids, tax_rate_by_id, taxes_of_customer,
+};

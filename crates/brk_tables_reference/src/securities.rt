@@ -1,3 +1,5 @@
+//! Securities (SECURITY), and the insertion of their last trades on the market (LAST_TRADE).
+
 ghost use Rattle.std.specs.Prelude.{◌≡◌, bytes_eq};
 ghost use Rattle.brk_ref.specs.Records.{abstract_security_row, abstract_last_trade_row};
 ghost use Rattle.brk_trade_rows.specs.Changes.{tables_with_security, tables_with_last_trade};

@@ -1,3 +1,5 @@
+//! Tax rates (TAXRATE), and the taxes that customers pay (CUSTOMER_TAXRATE).
+
 ghost use Rattle.std.specs.Prelude.{◌≡◌, ◌==◌, ◌&&◌};
 ghost use Rattle.brk_ref.specs.Records.{abstract_tax_rate, abstract_customer_tax};
 ghost use Rattle.brk_trade_rows.specs.Changes.{tables_with_tax_rate, tables_with_customer_tax};
@@ -58,8 +60,8 @@ pub fn tax_rate_by_id<S: Alter>(
     decode_first_row(&rows)
 }
 
-/// Returns `None` if the customer does not pay the tax.
-pub fn paid_tax<S: Alter>(
+/// Returns the row of a tax that a customer pays, or `None` if the customer does not pay it.
+pub fn customer_tax_by_ids<S: Alter>(
     tx: &mut Transaction<'_, S>,
     customer: Id,
     tax: Id,

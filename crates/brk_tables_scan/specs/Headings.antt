@@ -14,20 +14,17 @@ Heading = List ℕ × List (List ℕ)
 abbrev pub heading_of_borrowed_texts : Bor (List ℕ) × Bor (List (Bor (List ℕ))) → Heading
 heading_of_borrowed_texts told = (told.0.now, map (λ (name : Bor (List ℕ)). name.now) told.1.now)
 
--- The text of the statement that selects all columns of the table `w`: `SELECT * FROM` and its SQL
--- name.
+-- The text of the statement that selects all columns of the table `w`.
 abbrev pub select_all_text : DeskTable → List ℕ
 select_all_text w = codes "SELECT * FROM " ++ table_name w
 
--- The statement that selects all columns of the table `w`, and the names of these columns, in
--- order.
+-- The statement that selects all columns of the table `w`, and their names, in order.
 abbrev pub heading_of_table : DeskTable → Heading
 heading_of_table w = (select_all_text w, (table_and_column_names (table_definition_at_tree w 0)).columns)
 
--- If `has` is true, as it is for an empty list, each statement compiles in the schema, and its
--- result has exactly the column names of its heading, in order. If `has` is false, this holds for
--- the first statements, possibly none, and the next statement compiles, but its result does not
--- have the column names of its heading.
+-- If `has` is true, each statement compiles, and its result has exactly the column names of its
+-- heading, in order. If `has` is false, this holds for the first, possibly none, and the next
+-- compiles, but without the column names of its heading.
 abbrev pub IsHeadingCheckOutcome : List Heading → Bool → Schema → Type 0
 IsHeadingCheckOutcome [] has schema = has ≡ true
 IsHeadingCheckOutcome (h ∷ headings) has schema =

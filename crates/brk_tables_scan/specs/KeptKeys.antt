@@ -18,8 +18,7 @@ keys_of_kept_rows rows = map (λ r. abstract_key r.key) rows
 abbrev pub IsKeyOfRawRow : typed_key.Key → Row → Type 0
 IsKeyOfRawRow key raw = (whole : typed.Kept) × (kept_cells (abstract_kept_row whole) ≡ raw) × (abstract_key whole.key ≡ abstract_key key)
 
--- The raw rows `raw` encode, in order, some typed rows of KEPT, which have the keys `keys`, in
--- order, and any texts.
+-- `raw` encode, in order, some typed rows of KEPT, with the keys `keys` and any texts.
 abbrev pub AreKeysOfRawRows : List typed_key.Key → List Row → Type 0
 AreKeysOfRawRows keys raw =
     (whole : List typed.Kept) × (map (λ r. kept_cells (abstract_kept_row r)) whole ≡ raw) × (keys_of_kept_rows whole ≡ map abstract_key keys)

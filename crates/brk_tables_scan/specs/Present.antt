@@ -7,8 +7,7 @@ use Rattle.brk_model.specs.Schemas.{Schema}
 use Rattle.brk_tables_schema.specs.Desk.{DeskTable, all_tables, table_name, tables_in_schema}
 use Rattle.brk_tables_schema.specs.Desk.{tables_of_later_schemas}
 
--- True if the schema of the database has a table with the SQL name of the table `w` of a desk, with
--- any columns. As in SQL, upper and lower case of ASCII letters are equal in names.
+-- True if the schema has a table with the SQL name of `w`, in any case of ASCII letters.
 abbrev pub has_table_named : database.Schema → DeskTable → Bool
 has_table_named schema w = is_some (table_named schema (table_name w))
 
@@ -16,9 +15,8 @@ has_table_named schema w = is_some (table_named schema (table_name w))
 abbrev pub has_table_of_desk : database.Schema → Bool
 has_table_of_desk schema = list_any (has_table_named schema) all_tables
 
--- True if the database has each table of the desk's schema `desk`, and no table that a schema later
--- than `desk` adds. Tables are compared by name only (`has_table_named`). The database may have
--- other tables.
+-- True if the database has each table of the desk's schema `desk`, and none that a later schema
+-- adds, by name only (`has_table_named`). It may have other tables.
 abbrev pub has_exact_table_names : Schema → database.Schema → Bool
 has_exact_table_names desk schema =
     list_all (has_table_named schema) (tables_in_schema desk) && not (list_any (has_table_named schema) (tables_of_later_schemas desk))

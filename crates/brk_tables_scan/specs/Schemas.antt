@@ -1,6 +1,5 @@
--- The tables that a database must have to have a schema of a desk, and the premise under which
--- their rows are known. In the parameters, `desk` is the schema of a desk, and `schema` is the list
--- of the tables that the database has.
+-- The tables that a database must have to have a schema of a desk, and the premise by which their
+-- rows are known. `desk` is a desk's schema, `schema` the list of the database's tables.
 use Rattle.std.specs.Prelude.{◌≡◌, ℕ, List, [], ◌∷◌, map, Some, None, slice_get, IsTrue}
 use Rattle.std.specs.List.{AllByRecursion, IsDistinct}
 use Rattle.sqlite_value.specs.declared.value.Value.{Value}
@@ -31,31 +30,26 @@ pub record TableAndColumnNames : Type 0 where
 abbrev pub table_and_column_names : Table → TableAndColumnNames
 table_and_column_names table = record { name = table.name; columns = map (λ c. c.name) table.columns }
 
--- The table `table` is at the index `at` of `schema`, the list of the tables of the database. It is
--- the first with the name of `names` (upper and lower case of ASCII letters are equal), and it has
--- exactly the column names of `names`, in order.
+-- `table` is at the index `at` of `schema`, the first with the name of `names` (in any case of
+-- ASCII letters), and has exactly the column names of `names`, in order.
 pub record IsTableWithNames (schema : database.Schema) (names : TableAndColumnNames) (at : ℕ) (table : Table) : Type 0 where
   pub named : table_named schema names.name ≡ Some at
   pub found : slice_get schema.tables at ≡ Some table
   pub columns : map (λ c. c.name) table.columns ≡ names.columns
 
--- The database has a table with the name and exactly the column names of `names`, in order
--- (`IsTableWithNames`).
+-- The database has a table with the name and exactly the column names of `names`, in order.
 abbrev pub HasTableWithNames : database.Schema → TableAndColumnNames → Type 0
 HasTableWithNames schema names = (at : ℕ) × (table : Table) × IsTableWithNames schema names at table
 
--- For each table of the schema `desk`, the database has a table with its name and exactly its
--- column names, in order.
+-- The database has each table of the schema `desk`, with exactly its column names, in order.
 abbrev pub HasTablesOfSchema : Schema → database.Schema → Type 0
 HasTablesOfSchema desk schema = AllByRecursion (λ w. HasTableWithNames schema (table_and_column_names (table_definition_at_tree w 0))) (tables_in_schema desk)
 
--- The database has no table with the name of one that the schema `desk` does not have and that a
--- schema later than `desk` adds.
+-- The database has no table named as one that the schema `desk` lacks and a later schema adds.
 abbrev pub LacksTablesOfLaterSchemas : Schema → database.Schema → Type 0
 LacksTablesOfLaterSchemas desk schema = AllByRecursion (λ w. table_named schema (table_name w) ≡ None) (tables_of_later_schemas desk)
 
--- The row has exactly the three values of a row of DESK in the schema `desk`: the id 1, the number
--- of the schema, and any value as the stamp.
+-- The row is of DESK in the schema `desk`: the id 1, the schema's number, and any stamp value.
 abbrev pub IsDeskRowOfSchema : Schema → Row → Type 0
 IsDeskRowOfSchema desk row = (last : Value) × (row ≡ natural_as_value 1 ∷ natural_as_value desk.number ∷ last ∷ [])
 
@@ -63,10 +57,9 @@ IsDeskRowOfSchema desk row = (last : Value) × (row ≡ natural_as_value 1 ∷ n
 abbrev pub IsOneDeskRowOfSchema : Schema → List Row → Type 0
 IsOneDeskRowOfSchema desk rows = (last : Value) × (rows ≡ (natural_as_value 1 ∷ natural_as_value desk.number ∷ last ∷ []) ∷ [])
 
--- The database has the schema `desk`: each table of the schema, by its name and with exactly its
--- column names, in order; no table with the name of one that a schema later than `desk` adds; and
--- exactly one row of DESK, with the id 1 and the number of the schema `desk`. The clause on the row
--- is vacuous if DESK is not defined as a desk defines it.
+-- The database has the schema `desk`: each of its tables, by name and with exactly the column
+-- names, in order; no table named as one that a later schema adds; and exactly one row of DESK,
+-- with the id 1 and the schema's number, which is vacuous if DESK is not defined as a desk's.
 pub record DatabaseHasSchema (desk : Schema) (db : Database) : Type 0 where
   pub tables : HasTablesOfSchema desk db.schema
   pub later : LacksTablesOfLaterSchemas desk db.schema
@@ -78,28 +71,24 @@ pub record HasDistinctRowids (rows : List Row) : Type 0 where
   pub keyed : AllByRecursion (λ r. IsTrue (is_int (rowid r))) rows
   pub apart : IsDistinct has_same_rowid rows
 
--- Each table of the database with the name of a table of the schema `desk` is defined as a desk
--- defines it, with the same columns, keys and foreign keys. These tables have distinct trees. In
--- each of them the rowids of the rows are distinct integers, and no foreign key of a table at its
--- tree changes or deletes rows. The database is well-formed (`IsDatabase`).
+-- Each table of the database named as a table of `desk` is defined as a desk defines it, with the
+-- same columns, keys and foreign keys. The trees are distinct, the rowids in each are distinct
+-- integers, and no foreign key of a table there changes or deletes rows. `IsDatabase` holds.
 pub record HasDeskDefinitions (desk : Schema) (db : Database) : Type 0 where
   pub sound : IsDatabase db
-  -- The definition of the table equals in all parts the one that the desk has for this name, at the
-  -- tree of the table.
+  -- The definition equals the desk's for this name, at the tree of the table.
   pub shaped : (w : DeskTable) → IsTableOfSchema desk w → (at : ℕ) (table : Table) → table_named db.schema (table_name w) ≡ Some at
       → slice_get db.schema.tables at ≡ Some table → table ≡ table_definition_at_tree w table.tree
   -- No two of these tables share a tree.
   pub apart : (v w : DeskTable) → IsTableOfSchema desk v → IsTableOfSchema desk w → (i j tree : ℕ) → IsTableAt db.schema (table_definition_at_tree v tree) i
       → IsTableAt db.schema (table_definition_at_tree w tree) j → v ≡ w
-  -- No foreign key of a table whose rows are at the tree of one of these tables changes or deletes
-  -- rows.
+  -- No foreign key of a table at the tree of one of these changes or deletes rows.
   pub keys_write_nothing : (w : DeskTable) → IsTableOfSchema desk w → (at tree : ℕ) → IsTableAt db.schema (table_definition_at_tree w tree) at
       → HasNoWritingForeignKeysAt db.schema tree
   pub keyed : (w : DeskTable) → IsTableOfSchema desk w → (at tree : ℕ) → IsTableAt db.schema (table_definition_at_tree w tree) at
       → HasDistinctRowids (db.trees tree)
 
--- If the database has each table of the schema `desk`, by its name and with exactly its column
--- names, in order, it satisfies `HasDeskDefinitions`.
+-- If `db` has the tables of `desk`, by names and column names, it satisfies `HasDeskDefinitions`.
 abbrev pub TablesWithSchemaNamesAreDeskTables : Schema → Database → Type 0
 TablesWithSchemaNamesAreDeskTables desk db = HasTablesOfSchema desk db.schema → HasDeskDefinitions desk db
 

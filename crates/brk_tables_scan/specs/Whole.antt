@@ -32,8 +32,7 @@ pub record AreTableRows (w : DeskTable) (rows : List Row) (db : Database) (tree 
   pub table_holds_records : (xs : List (RecordOfTable w)) → IsDatabase db → HasDistinctRowids (db.trees tree) → map (encoded_row w) xs ≡ rows
       → TreeHoldsRecords (table_definition_at_tree w tree) (encoded_row w) (ordering_by_primary_key w) xs (db.trees tree)
 
--- The list `rows` has the rows of the table `w` (`AreTableRows`). Vacuous if no table of the
--- database is defined as a desk defines `w`.
+-- The list `rows` has the rows of the table `w`. Vacuous if the database has no table so defined.
 abbrev pub ShowsAllRows : DeskTable → List Row → Database → Type 0
 ShowsAllRows w rows db = (at tree : ℕ) → IsTableAt db.schema (table_definition_at_tree w tree) at → AreTableRows w rows db tree
 
@@ -42,29 +41,25 @@ ShowsAllRows w rows db = (at tree : ℕ) → IsTableAt db.schema (table_definiti
 abbrev pub ReadsAllRows : {S E : Type 0} → Ghosts S → Transaction S → Transaction S → Result (Vec Row) E → DeskTable → Type 0
 ReadsAllRows g old new result w = IsConnectionStep g old new result (λ rows a b. IsTrue a.is_open × (b.now ≡ a.now) × ShowsAllRows w rows.items a.now)
 
--- If the schema `desk` has the table `w`, the list `rows` is all rows of this table
--- (`ShowsAllRows`). Otherwise the list is empty.
+-- `rows` is all rows of the table `w` (`ShowsAllRows`) or, if the schema `desk` lacks it, empty.
 abbrev pub ShowsRowsIfInSchema : Schema → DeskTable → List Row → Database → Type 0
 ShowsRowsIfInSchema desk w rows db = (IsTableOfSchema desk w → ShowsAllRows w rows db) × (schema_has_table desk w ≡ false → rows ≡ [])
 
--- A step of the connection (`IsConnectionStep`): if the call succeeds, the database is unchanged,
--- and the call returns all rows of the table `w`, or none if the schema `desk` does not have this
--- table (`ShowsRowsIfInSchema`).
+-- A step of the connection (`IsConnectionStep`): at `Ok` the database is unchanged, and all rows of
+-- `w` are returned, or none if the schema `desk` lacks it (`ShowsRowsIfInSchema`).
 abbrev pub ReadsRowsIfInSchema : {S E : Type 0} → Ghosts S → Transaction S → Transaction S → Result (Vec Row) E → Schema → DeskTable → Type 0
 ReadsRowsIfInSchema g old new result desk w = IsConnectionStep g old new result (λ rows a b. (b.now ≡ a.now) × ShowsRowsIfInSchema desk w rows.items a.now)
 
--- The database contains the tables of the schema `desk`, and no table that a later schema adds
--- (`HasDeskTablesInSchema`), with the typed rows `sheets`, but for the texts of KEPT: its rows of
--- KEPT are the typed rows `whole`, which have, in order, the keys of KEPT in `sheets`.
+-- The database contains the tables of the schema `desk`, and none that a later schema adds
+-- (`HasDeskTablesInSchema`), with the rows `sheets`; of KEPT only the keys: its rows are `whole`.
 pub record AreSheetsExceptKeptTexts (desk : Schema) (db : Database) (sheets : Sheets) : Type 0 where
   pub whole : List typed.Kept
   pub keys : keys_of_kept_rows whole ≡ map abstract_key sheets.kept.items
   pub stored : HasDeskTablesInSchema desk (tables_with_whole_kept_rows whole sheets) db
 
 -- The database contains the tables of the schema with the typed rows `sheets`, but for the texts of
--- KEPT (`AreSheetsExceptKeptTexts`). For `None`: if the database contains the tables of the schema
--- with some rows, these rows fail the audit condition `Form`, or one of their texts is not UTF-8.
--- The case `None` is vacuous if the database does not contain these tables.
+-- KEPT (`AreSheetsExceptKeptTexts`). `None`: if it contains these tables, their rows fail the audit
+-- condition `Form`, or have a text that is not UTF-8; vacuous otherwise.
 abbrev pub AreSheetsOfDatabase : Schema → Database → Option Sheets → Type 0
 AreSheetsOfDatabase desk db (Some sheets) = AreSheetsExceptKeptTexts desk db sheets
 AreSheetsOfDatabase desk db None = (t : Tables) → HasDeskTablesInSchema desk t db → satisfies_form_condition desk t && has_utf8_texts t ≡ false

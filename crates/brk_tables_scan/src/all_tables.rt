@@ -1,7 +1,8 @@
 //! Written by tools/generate/tables.py.
-//! The reads of all tables: first all rows are read, and then decoded, table by table; the raw rows
-//! of a table are dropped as they are decoded. Of KEPT, whose texts are long and of which an audit
-//! checks only that they are UTF-8, the keys alone are kept as it is read. If a table has a malformed row, DESK not
+//! The reads of all tables, in groups of two to four (the comment of the struct of a group names
+//! them): first all rows are read, and then decoded, table by table; the raw rows of a table are
+//! dropped as they are decoded. Of KEPT, whose texts are long and of which an audit checks only that
+//! they are UTF-8, the keys alone are kept as it is read. If a table has a malformed row, DESK not
 //! exactly one row with the number of the schema, or SETTLE_RULE two rows or more,
 //! `are_well_formed` of the decoder is false, and there are no typed rows of this table.
 

@@ -15,13 +15,13 @@ use brk_ref::{Kept, Key};
 use brk_tables_schema::DecodeError;
 use brk_tables_schema::desk_row::last_stamp_in_desk_rows;
 use brk_tables_schema::record::Record;
-use brk_tables_schema::rule_row::start_in_rule_rows;
+use brk_tables_schema::rule_row::one_day_start_in_rule_rows;
 use brk_trade_rows::Schema;
 use sqlite::Row;
 use std::alloc::{AllocError, Global};
 
 // Drops each raw row once it is decoded, so that the rows are not in memory twice.
-fn decode_owned_rows<R: Record>(alloc: Global, rows: Vec<Row>) -> Result<Vec<R>, DecodeError>
+fn decode_table_rows<R: Record>(alloc: Global, rows: Vec<Row>) -> Result<Vec<R>, DecodeError>
     ensures value { IfOk result (λ all. map R.cells all.items ≡ rows.items) }
     ensures form { result ≡ Err Formless → list_all (passes_all_cell_checks R.forms) rows.items ≡ false }
 {
@@ -41,7 +41,7 @@ fn decode_kept_key(row: &Row) -> Result<Key, DecodeError>
     Ok(whole.key)
 }
 
-fn decode_kept_keys(alloc: Global, rows: Vec<Row>) -> Result<Vec<Key>, DecodeError>
+fn decode_keys_of_kept_rows(alloc: Global, rows: Vec<Row>) -> Result<Vec<Key>, DecodeError>
     ensures value { IfOk result (λ all. AreKeysOfRawRows all.items rows.items) }
     ensures form { result ≡ Err Formless → list_all (passes_all_cell_checks kept_column_cell_checks) rows.items ≡ false }
 {
@@ -79,7 +79,7 @@ impl Decoder {
             (list_all (passes_all_cell_checks R.forms) rows.items)
             (map R.cells all.items ≡ rows.items)) }
     {
-        match decode_owned_rows(alloc, rows) {
+        match decode_table_rows(alloc, rows) {
             Ok(all) => Ok(all),
             Err(DecodeError::Form) => {
                 self.are_well_formed = false;
@@ -98,7 +98,7 @@ impl Decoder {
         ensures decoding { IfOk result (λ all. ContinuesDecoding self.old.are_well_formed self.new.are_well_formed
             (list_all (passes_all_cell_checks kept_column_cell_checks) rows.items) (AreKeysOfRawRows all.items rows.items)) }
     {
-        match decode_kept_keys(alloc, rows) {
+        match decode_keys_of_kept_rows(alloc, rows) {
             Ok(all) => Ok(all),
             Err(DecodeError::Form) => {
                 self.are_well_formed = false;
@@ -132,7 +132,7 @@ impl Decoder {
             (has_at_most_one_valid_rule_row rows.items)
             (map rule_cells (rule_rows day) ≡ rows.items)) }
     {
-        match start_in_rule_rows(&rows) {
+        match one_day_start_in_rule_rows(&rows) {
             Ok(day) => Ok(day),
             Err(DecodeError::Form) => {
                 self.are_well_formed = false;

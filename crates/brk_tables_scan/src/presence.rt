@@ -82,6 +82,7 @@ fn presence_matches<S: Alter>(
     Ok(!has_any_of_tables(tx, absent)?)
 }
 
+// The check of `has_table_names`, without the look-up that fails if the database is not open.
 fn names_match<S: Alter>(tx: &mut Transaction<'_, S>, schema: Schema) -> Result<bool, StoreFailed>
     ensures same_reference { tx.new.conn.ghost_name ≡ tx.old.conn.ghost_name }
     ensures step { IsConnectionStep S.Store tx.old tx.new result (λ has a b. (b.now ≡ a.now)

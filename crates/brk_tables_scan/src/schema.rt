@@ -1,3 +1,5 @@
+//! The test of which schema a database has: by its tables, and by the number in its row of DESK.
+
 ghost use Rattle.std.specs.Prelude.{◌≡◌, ◌≢◌, ◌↔◌, ◌<◌, IsTrue, length, false, pos};
 ghost use Rattle.sqlite_value.specs.declared.value.Value.TheVariants.{Int};
 ghost use Rattle.sqlite_value.specs.Order.{column};
@@ -44,6 +46,7 @@ fn is_desk_row_of_schema(schema: Schema, row: &Row) -> bool
     column_equals_integer(row, 0, 1) && column_equals_integer(row, 1, schema_number(schema))
 }
 
+// The row must also have the number of `schema`.
 #[tactic(auto, using(crate::proofs::Firsts::says_one, crate::proofs::Firsts::first_of))]
 fn has_one_desk_row(schema: Schema, rows: &[Row]) -> bool
     ensures if_true { IsTrue result → IsOneDeskRowOfSchema (abstract_schema schema) rows.now }

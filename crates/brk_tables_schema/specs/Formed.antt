@@ -156,15 +156,13 @@ is_null_or_stamp_cell = is_null_or_natural_cell (λ n. nat_le n greatest_stamp)
 
 -- ---- The check of a row
 
--- True if the row has as many columns as there are checks, and each column passes the check at its
--- index.
+-- True if the row has as many columns as there are checks, and each passes its check.
 abbrev pub passes_all_cell_checks : List (Value → Bool) → Row → Bool
 passes_all_cell_checks [] [] = true
 passes_all_cell_checks (has_form ∷ forms) (v ∷ row) = has_form v && passes_all_cell_checks forms row
 passes_all_cell_checks _ _ = false
 
--- The checks of the columns of DESK in the schema `schema`, in the order of the columns: the id is
--- 1, the number is the schema's, and the last stamp is NULL or within the limits of a stamp.
+-- The checks of DESK's columns: the id is 1, the number the schema's, the last stamp NULL or valid.
 abbrev pub desk_column_cell_checks : Schema → List (Value → Bool)
 desk_column_cell_checks schema = is_natural_cell (λ n. n == 1) ∷ is_natural_cell (λ n. n == schema.number) ∷ is_null_or_stamp_cell ∷ []
 

@@ -1,4 +1,5 @@
-//! Calls of the database within a transaction. They commit nothing. At an error the database is
+//! Calls of the database within a transaction: a statement is executed, rows are selected, and a
+//! statement is compiled without its execution. They commit nothing. At an error the database is
 //! unchanged or the transaction is rolled back.
 
 ghost use Rattle.std.specs.Prelude.{◌≡◌, ℕ, List, map, Ok, None, IsTrue};

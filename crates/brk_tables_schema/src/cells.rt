@@ -91,7 +91,7 @@ pub fn text_cell(row: &Row, at: usize) -> Result<String, DecodeError>
 
 /// Reads a text of the format `F`.
 #[tactic(auto, using(crate::proofs::Unformed::no_formed_text))]
-pub fn formed_cell<F: Form>(row: &Row, at: usize) -> Result<FormedText<F>, DecodeError>
+pub fn formed_text_cell<F: Form>(row: &Row, at: usize) -> Result<FormedText<F>, DecodeError>
     ensures value { IfOk result (λ text. column row.now at ≡ Text text) }
     ensures form { result ≡ Err Formless → at < length row.now → is_text_cell F.form (column row.now at) ≡ false }
 {

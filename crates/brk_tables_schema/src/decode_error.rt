@@ -1,3 +1,5 @@
+//! The error of the decoding of a row, and its conversions to faults.
+
 ghost use Rattle.std.specs.Prelude.{◌≡◌, ◌≢◌};
 ghost use Rattle.sqlite.specs.declared.error.Error as Error;
 ghost use Rattle.sqlite.specs.declared.error.ErrorCode as ErrorCode;

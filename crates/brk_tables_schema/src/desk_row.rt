@@ -1,3 +1,5 @@
+//! The row of DESK: the stamp of the last accepted command, set, read and decoded.
+
 ghost use Rattle.std.specs.Prelude.{◌≡◌, ◌∷◌, [], IfOk, map, Err, false};
 ghost use Rattle.brk_tables_sql.specs.Model.{IsConnectionStep};
 ghost use Rattle.brk_model.specs.Schemas.{third_schema};
@@ -57,7 +59,7 @@ pub fn last_stamp_in_desk_rows(schema: Schema, rows: &[Row]) -> Result<Option<St
     }
 }
 
-fn last_stamp_of_third(rows: &[Row]) -> Result<Option<Stamp>, StoreFailed>
+fn last_stamp_in_third_schema(rows: &[Row]) -> Result<Option<Stamp>, StoreFailed>
     ensures value { IfOk result (λ last. map desk_row_cells (desk_rows third_schema last) ≡ rows.now) }
 {
     Ok(last_stamp_in_desk_rows(Schema::Third, rows)?)
@@ -75,5 +77,5 @@ pub fn last_stamp<S: Alter>(tx: &mut Transaction<'_, S>) -> Result<Option<Stamp>
         "SELECT D_ID, D_SCHEMA, D_LAST FROM DESK ORDER BY D_ID",
         &[],
     )?;
-    last_stamp_of_third(&rows)
+    last_stamp_in_third_schema(&rows)
 }

@@ -1,3 +1,5 @@
+//! The rows of KEPT, stored requests and replies: added, decoded, and read by key.
+
 ghost use Rattle.std.specs.Prelude.{◌≡◌, ◌==◌, ◌&&◌, bytes_eq};
 ghost use Rattle.brk_ref.specs.Records.{abstract_kept_row};
 ghost use Rattle.brk_trade_rows.specs.Changes.{tables_with_stored_reply};
@@ -7,7 +9,7 @@ ghost use Rattle.brk_tables_schema.specs.Formed.{kept_column_cell_checks};
 ghost use Rattle.brk_tables_schema.specs.Statements.{ReadsFirstMatch, WritesDeskTables};
 
 use crate::calls::{execute_statement, select_rows};
-use crate::cells::{check_column_count, formed_cell, row_number_cell, text_cell};
+use crate::cells::{check_column_count, formed_text_cell, row_number_cell, text_cell};
 use crate::decode_error::DecodeError;
 use crate::record::{Record, decode_first_row};
 use crate::values::{row_number_param, text_param};
@@ -40,7 +42,7 @@ impl Record for Kept {
     fn from_row(row: &Row) -> Result<Kept, DecodeError> {
         check_column_count(row, 4)?;
         let key = Key {
-            batch: formed_cell(row, 0)?,
+            batch: formed_text_cell(row, 0)?,
             n: row_number_cell(row, 1)?,
         };
         Ok(Kept {

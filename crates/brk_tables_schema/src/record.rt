@@ -37,16 +37,19 @@ pub fn decode_first_row<T: Record>(rows: &[Row]) -> Result<Option<T>, StoreFaile
     }
 }
 
-/// Decodes all rows, in order.
+/// Decodes all rows, in order. Fails with `Store` at the first malformed one.
 pub fn decode_rows<T: Record>(alloc: Global, rows: &[Row]) -> Result<Vec<T>, CallFault>
     ensures value { IfOk result (λ all. map T.cells all.items ≡ rows.now) }
 {
-    Ok(decode_records(alloc, rows)?)
+    Ok(decode_rows_with_reason(alloc, rows)?)
 }
 
-/// Decodes all rows, in order, and fails at the first malformed one.
+/// Decodes all rows, in order. Fails at the first malformed one, with the reason.
 #[tactic(auto, using(crate::proofs::Unformed::not_all))]
-pub fn decode_records<T: Record>(alloc: Global, rows: &[Row]) -> Result<Vec<T>, DecodeError>
+pub fn decode_rows_with_reason<T: Record>(
+    alloc: Global,
+    rows: &[Row],
+) -> Result<Vec<T>, DecodeError>
     ensures value { IfOk result (λ all. map T.cells all.items ≡ rows.now) }
     ensures form { result ≡ Err Formless → list_all (passes_all_cell_checks T.forms) rows.now ≡ false }
 {

@@ -9,8 +9,8 @@ ghost use Rattle.brk_tables_schema.specs.Formed.{charge_column_cell_checks, cust
 ghost use Rattle.brk_tables_schema.specs.Formed.{permission_column_cell_checks, security_column_cell_checks, tax_rate_column_cell_checks};
 
 use crate::cells::{
-    cents_cell, charge_cell, check_column_count, formed_cell, id_cell, integer_cell, natural_cell,
-    qty_cell, rate_cell, tax_rate_cell, tax_status_cell, tier_cell, trade_type_cell,
+    cents_cell, charge_cell, check_column_count, formed_text_cell, id_cell, integer_cell,
+    natural_cell, qty_cell, rate_cell, tax_rate_cell, tax_status_cell, tier_cell, trade_type_cell,
 };
 use crate::decode_error::DecodeError;
 use crate::record::Record;
@@ -32,7 +32,7 @@ impl Record for AccountRow {
                 id: id_cell(row, 0)?,
                 customer: id_cell(row, 1)?,
                 broker: id_cell(row, 2)?,
-                name: formed_cell(row, 3)?,
+                name: formed_text_cell(row, 3)?,
                 tax_status: tax_status_cell(row, 4)?,
                 opening: cents_cell(row, 5)?,
             },
@@ -51,7 +51,7 @@ impl Record for Band {
         Ok(Band {
             tier: tier_cell(row, 0)?,
             kind: trade_type_cell(row, 1)?,
-            exchange: formed_cell(row, 2)?,
+            exchange: formed_text_cell(row, 2)?,
             from_qty: qty_cell(row, 3)?,
             to_qty: qty_cell(row, 4)?,
             rate: rate_cell(row, 5)?,
@@ -69,7 +69,7 @@ impl Record for BrokerRow {
         Ok(BrokerRow {
             broker: Broker {
                 id: id_cell(row, 0)?,
-                name: formed_cell(row, 1)?,
+                name: formed_text_cell(row, 1)?,
             },
             trades: integer_cell(row, 2)?,
             commissions: natural_cell(row, 3)?,
@@ -102,9 +102,9 @@ impl Record for Customer {
         Ok(Customer {
             id: id_cell(row, 0)?,
             tier: tier_cell(row, 1)?,
-            tax_id: formed_cell(row, 2)?,
-            last_name: formed_cell(row, 3)?,
-            first_name: formed_cell(row, 4)?,
+            tax_id: formed_text_cell(row, 2)?,
+            last_name: formed_text_cell(row, 3)?,
+            first_name: formed_text_cell(row, 4)?,
         })
     }
 }
@@ -118,10 +118,10 @@ impl Record for Permission {
         check_column_count(row, 5)?;
         Ok(Permission {
             account: id_cell(row, 0)?,
-            tax_id: formed_cell(row, 1)?,
-            acl: formed_cell(row, 2)?,
-            last_name: formed_cell(row, 3)?,
-            first_name: formed_cell(row, 4)?,
+            tax_id: formed_text_cell(row, 1)?,
+            acl: formed_text_cell(row, 2)?,
+            last_name: formed_text_cell(row, 3)?,
+            first_name: formed_text_cell(row, 4)?,
         })
     }
 }
@@ -134,10 +134,10 @@ impl Record for Security {
     fn from_row(row: &Row) -> Result<Security, DecodeError> {
         check_column_count(row, 4)?;
         Ok(Security {
-            symbol: formed_cell(row, 0)?,
-            name: formed_cell(row, 1)?,
-            exchange: formed_cell(row, 2)?,
-            sector: formed_cell(row, 3)?,
+            symbol: formed_text_cell(row, 0)?,
+            name: formed_text_cell(row, 1)?,
+            exchange: formed_text_cell(row, 2)?,
+            sector: formed_text_cell(row, 3)?,
         })
     }
 }
@@ -151,7 +151,7 @@ impl Record for Tax {
         check_column_count(row, 3)?;
         Ok(Tax {
             id: id_cell(row, 0)?,
-            name: formed_cell(row, 1)?,
+            name: formed_text_cell(row, 1)?,
             rate: tax_rate_cell(row, 2)?,
         })
     }

@@ -1,4 +1,4 @@
-//! The decoding of the row of SETTLE_RULE.
+//! The decoding of the row of SETTLE_RULE, the first day of one-day settlement.
 
 ghost use Rattle.std.specs.Prelude.{◌≡◌, ◌∷◌, [], Err, IfOk, Some, false, map};
 ghost use Rattle.brk_tables_schema.specs.Cells.{rule_cells};
@@ -11,7 +11,7 @@ use crate::decode_error::DecodeError;
 use brk_money::Day;
 use sqlite::Row;
 
-fn start_in_rule_row(row: &Row) -> Result<Day, DecodeError>
+fn one_day_start_in_rule_row(row: &Row) -> Result<Day, DecodeError>
     ensures value { IfOk result (λ day. map rule_cells (rule_rows (Some day)) ≡ row.now ∷ []) }
     ensures form { result ≡ Err Formless → passes_all_cell_checks rule_column_cell_checks row.now ≡ false }
 {
@@ -25,13 +25,13 @@ fn start_in_rule_row(row: &Row) -> Result<Day, DecodeError>
 /// Decodes the first day of one-day settlement, in days since 1970-01-01, from all rows of
 /// SETTLE_RULE, or returns `None` if there is no row. Fails with `Form` also if there are two rows
 /// or more, or a row with another id than 1.
-pub fn start_in_rule_rows(rows: &[Row]) -> Result<Option<Day>, DecodeError>
+pub fn one_day_start_in_rule_rows(rows: &[Row]) -> Result<Option<Day>, DecodeError>
     ensures value { IfOk result (λ day. map rule_cells (rule_rows day) ≡ rows.now) }
     ensures form { result ≡ Err Formless → has_at_most_one_valid_rule_row rows.now ≡ false }
 {
     match rows {
         [] => Ok(None),
-        [row] => Ok(Some(start_in_rule_row(row)?)),
+        [row] => Ok(Some(one_day_start_in_rule_row(row)?)),
         _ => Err(DecodeError::Form),
     }
 }

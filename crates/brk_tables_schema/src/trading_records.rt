@@ -13,8 +13,9 @@ ghost use Rattle.brk_tables_schema.specs.Formed.{summary_column_cell_checks, tra
 
 use crate::cells::{
     amount_cell, cash_row_id_cell, cash_type_cell, cents_cell, charge_cell, check_column_count,
-    day_cell, flag_cell, formed_cell, id_cell, integer_cell, optional_id_cell, optional_price_cell,
-    price_cell, qty_cell, stamp_cell, status_cell, text_cell, trade_type_cell, volume_cell,
+    day_cell, flag_cell, formed_text_cell, id_cell, integer_cell, optional_id_cell,
+    optional_price_cell, price_cell, qty_cell, stamp_cell, status_cell, text_cell, trade_type_cell,
+    volume_cell,
 };
 use crate::decode_error::DecodeError;
 use crate::record::Record;
@@ -35,7 +36,7 @@ impl Record for HoldingRow {
         Ok(HoldingRow {
             trade: id_cell(row, 0)?,
             account: id_cell(row, 1)?,
-            symbol: formed_cell(row, 2)?,
+            symbol: formed_text_cell(row, 2)?,
             stamp: stamp_cell(row, 3)?,
             price: price_cell(row, 4)?,
             qty: integer_cell(row, 5)?,
@@ -52,7 +53,7 @@ impl Record for SummaryRow {
         check_column_count(row, 3)?;
         Ok(SummaryRow {
             account: id_cell(row, 0)?,
-            symbol: formed_cell(row, 1)?,
+            symbol: formed_text_cell(row, 1)?,
             qty: integer_cell(row, 2)?,
         })
     }
@@ -66,7 +67,7 @@ impl Record for LastTrade {
     fn from_row(row: &Row) -> Result<LastTrade, DecodeError> {
         check_column_count(row, 4)?;
         Ok(LastTrade {
-            symbol: formed_cell(row, 0)?,
+            symbol: formed_text_cell(row, 0)?,
             stamp: stamp_cell(row, 1)?,
             price: price_cell(row, 2)?,
             volume: volume_cell(row, 3)?,
@@ -84,7 +85,7 @@ impl Record for RequestRow {
         Ok(RequestRow {
             trade: id_cell(row, 0)?,
             kind: trade_type_cell(row, 1)?,
-            symbol: formed_cell(row, 2)?,
+            symbol: formed_text_cell(row, 2)?,
             qty: qty_cell(row, 3)?,
             bid: price_cell(row, 4)?,
             broker: id_cell(row, 5)?,
@@ -105,7 +106,7 @@ impl Record for TradeRow {
             status: status_cell(row, 2)?,
             kind: trade_type_cell(row, 3)?,
             is_cash: flag_cell(row, 4)?,
-            symbol: formed_cell(row, 5)?,
+            symbol: formed_text_cell(row, 5)?,
             qty: qty_cell(row, 6)?,
             bid: price_cell(row, 7)?,
             account: id_cell(row, 8)?,

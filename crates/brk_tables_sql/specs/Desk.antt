@@ -26,8 +26,7 @@ use Rattle.brk_tables_sql.specs.Rows.{TreeHoldsRecords}
 
 -- ---- The definition of a table
 
--- A column of a STRICT table, with this name and of this kind, NOT NULL, without a default, and
--- with the collation BINARY.
+-- A NOT NULL column of a STRICT table, without a default, and with the collation BINARY.
 abbrev pub not_null_column : Kind → List ℕ → Column
 not_null_column kind name = record { name = name; kind = kind; is_strict = true; not_null = true; default = Null; collation = Binary }
 
@@ -43,18 +42,16 @@ integer_column = not_null_column Integer
 abbrev pub nullable_integer_column : List ℕ → Column
 nullable_integer_column name = record (integer_column name) { not_null = false }
 
--- The foreign key of the column at `place` of a stored row to the column `column` of the table
--- `parent`, with NO ACTION on delete and on update, and not deferred.
+-- The foreign key of the column at `place` to `column` of `parent`, with NO ACTION, not deferred.
 abbrev pub foreign_key : ℕ → List ℕ → List ℕ → Reference
 foreign_key place parent column =
     record { columns = place ∷ []; parent = parent; parent_columns = column ∷ []; on_delete = NoAction; on_update = NoAction; is_deferred = false }
 
--- A table with this name, tree, columns and foreign keys (`references`), without checks, without
--- AUTOINCREMENT, and without defaults that are no literals. `key` is the position in `columns`,
--- from 0, of its INTEGER PRIMARY KEY column, or `None` if it has none; `primary` are the places of
--- its PRIMARY KEY, and `uniques` those of each UNIQUE constraint, including a PRIMARY KEY that is
--- not the rowid. The SQL index of each element of `uniques` is ascending in all its columns, with
--- the collation BINARY.
+-- A table with this name, tree, columns and foreign keys (`references`), without checks,
+-- AUTOINCREMENT and defaults that are no literals. `key` is the position in `columns`, from 0, of
+-- its INTEGER PRIMARY KEY column, or `None`; `primary` are the places of its PRIMARY KEY, `uniques`
+-- those of each UNIQUE constraint, a PRIMARY KEY that is not the rowid included. Their SQL indexes
+-- are ascending in all columns, with the collation BINARY.
 abbrev pub table_without_checks : List ℕ → ℕ → List Column → Option ℕ → List ℕ → List (List ℕ) → List Reference → Table
 table_without_checks name tree columns key primary uniques references = record {
   name = name;
@@ -73,15 +70,13 @@ table_without_checks name tree columns key primary uniques references = record {
 
 -- ---- The place of a table in a schema
 
--- The table `table` is at the index `at`, from 0, of the schema's list of tables, and no earlier
--- table of the list has the same name; names that differ only in the case of ASCII letters are the
--- same.
+-- `table` is at the index `at`, from 0, of the schema's list of tables, and no earlier table has
+-- the same name, in any case of ASCII letters.
 pub record IsTableAt (schema : Schema) (table : Table) (at : ℕ) : Type 0 where
   pub named : table_named schema table.name ≡ Some at
   pub found : slice_get schema.tables at ≡ Some table
 
--- True if the foreign-key action changes or deletes the referring rows. The other actions at most
--- refuse the change.
+-- True if the foreign-key action changes or deletes the referring rows, and does not only refuse.
 abbrev pub action_writes_rows : Action → Bool
 action_writes_rows NoAction = false
 action_writes_rows Restrict = false
@@ -93,13 +88,11 @@ action_writes_rows SetDefault = true
 abbrev pub foreign_key_writes_rows : Reference → Bool
 foreign_key_writes_rows ref = action_writes_rows ref.on_delete || action_writes_rows ref.on_update
 
--- True if the rows of the table `t` are at another tree than `tree`, or if none of the foreign keys
--- of `t` changes or deletes rows.
+-- True if the table `t` is not at `tree`, or none of its foreign keys changes or deletes rows.
 abbrev pub has_no_writing_foreign_keys_if_at : ℕ → Table → Bool
 has_no_writing_foreign_keys_if_at tree t = not (t.tree == tree) || list_all (λ ref. not (foreign_key_writes_rows ref)) t.references
 
--- No foreign key of a table whose rows are at `tree` changes or deletes rows. Vacuous if the schema
--- has no table whose rows are at `tree`.
+-- No foreign key of a table at `tree` changes or deletes rows. Vacuous if there is no such table.
 abbrev pub HasNoWritingForeignKeysAt : Schema → ℕ → Type 0
 HasNoWritingForeignKeysAt schema tree = list_all (has_no_writing_foreign_keys_if_at tree) schema.tables ≡ true
 
@@ -107,10 +100,9 @@ HasNoWritingForeignKeysAt schema tree = list_all (has_no_writing_foreign_keys_if
 abbrev pub has_no_writing_foreign_keys : Table → Bool
 has_no_writing_foreign_keys t = list_all (λ ref. not (foreign_key_writes_rows ref)) t.references
 
--- The database `new` has a table with the definition `shape tree`, for a number `tree` that is the
--- tree of no table of `old` and at which `new` has no rows. The database `new` also has all tables
--- of `old`, at the same indexes and with the same rows, and satisfies `IsDatabase`; it may have
--- other tables. No foreign key of a table that `old` lacks changes or deletes rows.
+-- `new` has a table with the definition `shape tree`, without rows, where `tree` is of no table of
+-- `old`, and all tables of `old`, at the same indexes with the same rows; it satisfies `IsDatabase`
+-- and may have other tables. No foreign key of a table that `old` lacks changes or deletes rows.
 pub record CreatesTableOfShape (old new : Database) (shape : ℕ → Table) : Type 0 where
   pub tree : ℕ
   pub at : ℕ
@@ -126,20 +118,18 @@ pub record CreatesTableOfShape (old new : Database) (shape : ℕ → Table) : Ty
   pub added_keys_write_nothing : list_all has_no_writing_foreign_keys more ≡ true
   pub sound : IsDatabase new
 
--- The database `new` results from `old` if the tables with these definitions are created one after
--- the other, in the order of the list, each as `CreatesTableOfShape` specifies. For an empty list
--- `new` equals `old`.
+-- `new` results from `old` by creating the tables with these definitions, in order
+-- (`CreatesTableOfShape`). For an empty list `new` equals `old`.
 abbrev pub CreatesEachTable : List (ℕ → Table) → Database → Database → Type 0
 CreatesEachTable [] old new = new ≡ old
 CreatesEachTable (shape ∷ shapes) old new = (mid : Database) × CreatesTableOfShape old mid shape × CreatesEachTable shapes mid new
 
 -- ---- All tables of the program
 
--- The tables of a program: `W` is the type of their names, and a value of `T` contains a list of
--- records for each of them. For each table: its definition with the rows at a given tree (`shape`),
--- the proof that this definition has this tree (`placed`), the type of its records (`Item`), the
--- row that encodes a record (`encode`), the order of its records (`order`), and its list of records
--- in a value of `T` (`list`).
+-- The tables of a program: `W` names them, and a value of `T` has a list of records for each. For
+-- each table: its definition at a given tree (`shape`), the proof that it has this tree (`placed`),
+-- the type of its records (`Item`), the row of a record (`encode`), their order (`order`), and its
+-- list in a value of `T` (`list`).
 pub record ProgramTables (W T : Type 0) : Type 1 where
   pub shape : W → ℕ → Table
   pub placed : (w : W) (tree : ℕ) → (shape w tree).tree ≡ tree
@@ -156,8 +146,7 @@ pub record HasTables {W T : Type 0} (desk : ProgramTables W T) (t : T) (tree : W
   pub is_table : (w : W) → IsTableAt db.schema (desk.shape w (tree w)) (place w)
   pub apart : (v w : W) → tree v ≡ tree w → v ≡ w
   pub keys_write_nothing : (w : W) → HasNoWritingForeignKeysAt db.schema (tree w)
-  -- The rows in the trees list the schema and satisfy its constraints, so reopening the database
-  -- finds this schema.
+  -- The rows list the schema and satisfy its constraints: a reopened database finds this schema.
   pub sound : IsDatabase db
   pub rows : (w : W) → TreeHoldsRecords (desk.shape w (tree w)) (desk.encode w) (desk.order w) (desk.list w t) (db.trees (tree w))
 
@@ -177,34 +166,29 @@ pub record PreservesUnrelatedTables {W : Type 0} (tree : W → ℕ) (old new : D
   pub rows : AllByRecursion (λ k. ((w : W) → k.tree ≢ tree w) → HasNoWritingForeignKeysAt old.schema k.tree
       → new.trees k.tree ≡ old.trees k.tree) old.schema.tables
 
--- For all records `t` and trees `tree`: if the database `old` contains the tables with the records
--- `t` at these trees (`HasTables`), `new` contains them with the records `f t` at the same trees,
--- the schema is unchanged, and so are the rows of each other table, unless a foreign key of that
--- table changes or deletes rows. Vacuous if `old` does not contain all these tables.
+-- For all records `t` and trees `tree`: if `old` contains the tables with `t` there (`HasTables`),
+-- `new` contains them with `f t`, the schema is unchanged, and so is each other table, unless a
+-- foreign key of its own changes or deletes rows. Vacuous if `old` lacks one of these tables.
 abbrev pub ChangesTablesBy : {W T : Type 0} → ProgramTables W T → (T → T) → Database → Database → Type 0
 ChangesTablesBy {W} {T} desk f old new =
     (t : T) (tree : W → ℕ) → HasTables desk t tree old → HasTables desk (f t) tree new × PreservesUnrelatedTables tree old new
 
--- `P` holds for all records `t` that the database contains in the program's tables (`HasTables`, at
--- any trees). Vacuous if the database does not contain all these tables.
+-- `P` holds for the records in the program's tables. Vacuous if the database lacks one of these.
 abbrev pub TablesSatisfy : {W T : Type 0} → ProgramTables W T → (T → Type 0) → Database → Type 0
 TablesSatisfy {W} {T} desk P db = (t : T) (tree : W → ℕ) → HasTables desk t tree db → P t
 
--- Each table of `old` is in `new`, at the same index and with the same rows. The database `new` may
--- have more tables.
+-- Each table of `old` is in `new`, with the same index and rows. `new` may have more tables.
 pub record PreservesAllTables (old new : Database) : Type 0 where
   pub more : List Table
   pub tables : new.schema.tables ≡ old.schema.tables ++ more
   pub rows : AllByRecursion (λ t. new.trees t.tree ≡ old.trees t.tree) old.schema.tables
 
--- If the Boolean is true, the statement `text` compiles in the schema. If it is false, `text` does
--- not compile, because a table that it names does not exist. If `text` does not compile for another
--- reason, neither Boolean is an outcome.
+-- True: the statement `text` compiles in the schema. False: it does not, because a table that it
+-- names does not exist. If it fails for another reason, neither is an outcome.
 abbrev pub IsCompilationOutcome : List ℕ → Bool → Schema → Type 0
 IsCompilationOutcome text true schema = (c : Compiled) × (understood schema text ≡ Ok c)
 IsCompilationOutcome text false schema = understood schema text ≡ Err NoSuchTable
 
--- The statement `text` compiles in the schema, and `has` is true if and only if the columns of its
--- result have exactly the names `names`, in order.
+-- `text` compiles; `has` is true if and only if its columns are named exactly `names`, in order.
 abbrev pub IsResultColumnCheckOutcome : List ℕ → List (List ℕ) → Bool → Schema → Type 0
 IsResultColumnCheckOutcome text names has schema = (c : Compiled) × (understood schema text ≡ Ok c) × (IsTrue has ↔ column_names c ≡ names)

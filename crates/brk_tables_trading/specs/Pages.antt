@@ -8,12 +8,10 @@ use Rattle.brk_ref.specs.Rows.{lots_oldest_first}
 abbrev pub page_size : ℕ
 page_size = 16
 
--- The list `xs` without its first `skipped` elements, and of the rest the first `page_size`
--- elements, or all if the rest has fewer.
+-- The elements of `xs` after the first `skipped`, at most `page_size` of them.
 abbrev pub page_after_skipped : {X : Type 0} → ℕ → List X → List X
 page_after_skipped skipped xs = take page_size (drop skipped xs)
 
--- The rows of the lots of `account` in the security `symbol`, sorted by the stamp of their opening
--- and then by the id of the trade that opened them, both ascending.
+-- The rows of the lots of `account` in `symbol`, by opening stamp, then by trade, ascending.
 abbrev pub position_lots_by_age : ℕ → Text → Tables → List HoldingRow
 position_lots_by_age account symbol t = lots_oldest_first (filter (λ r. (r.account == account) && bytes_eq r.symbol symbol) t.holdings)

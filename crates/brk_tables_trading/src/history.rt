@@ -1,3 +1,5 @@
+//! The insertion of a status change of a trade (TRADE_HISTORY); its read is in `trade_lists`.
+
 ghost use Rattle.std.specs.Prelude.{◌≡◌};
 ghost use Rattle.brk_trade_rows.specs.Changes.{tables_with_history_row};
 ghost use Rattle.brk_ref.specs.Rows.{abstract_history_row};

@@ -1,3 +1,6 @@
+//! The last trade of a security on the market (LAST_TRADE); the last trades of an account are in
+//! `trade_lists`.
+
 ghost use Rattle.std.specs.Prelude.{◌≡◌, bytes_eq};
 ghost use Rattle.brk_ref.specs.Records.{abstract_last_trade_row};
 ghost use Rattle.brk_trade_rows.specs.Changes.{tables_with_last_trade_replaced};

@@ -1,3 +1,5 @@
+//! The requests of pending trades (TRADE_REQUEST).
+
 ghost use Rattle.std.specs.Prelude.{◌≡◌, ◌&&◌, bytes_eq, nat_le};
 ghost use Rattle.brk_money.specs.Kinds.{is_same_trade_type};
 ghost use Rattle.brk_trade_rows.specs.Changes.{tables_with_request, tables_without_request};

@@ -1,4 +1,5 @@
-//! The settlements of completed trades.
+//! The insertion of the settlement of a completed trade (SETTLEMENT); its read and its update are
+//! in `updates`.
 
 ghost use Rattle.std.specs.Prelude.{◌≡◌};
 ghost use Rattle.brk_trade_rows.specs.Changes.{tables_with_settlement};

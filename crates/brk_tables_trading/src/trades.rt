@@ -1,3 +1,6 @@
+//! Trades (TRADE): their writes, and the reads by id and of submitted trades; the reads for views
+//! are in `trade_lists`, those for text updates in `updates`.
+
 ghost use Rattle.std.specs.Prelude.{◌≡◌, ◌==◌, option_map, reverse, slice_get};
 ghost use Rattle.brk_money.specs.Kinds.{is_same_trade_status};
 ghost use Rattle.brk_money.specs.declared.status.Status.TheVariants.{Submitted};

@@ -15,10 +15,9 @@ use Rattle.brk_tables_views.specs.declared.walking.WalkError.TheVariants.{Failed
 abbrev pub TakesListSatisfying : {X M V : Type 0} → (List M → Type 0) → (X → M) → (V → X → V → Type 0) → V → V → Type 0
 TakesListSatisfying {X} So of takes before after = (taken : List X) × FoldsTo takes before taken after × So (map of taken)
 
--- The walk failed; `before` and `after` are the visitor before and after it. At a fault `Begins`
--- holds for the list of the records that the visitor took, possibly none. At the visitor's error
--- `Begins` holds for the list of the records that it took, followed by the one at which it stopped
--- with this error. Each record of these lists is converted by `of`.
+-- The walk failed, with the visitor from `before` to `after`: at a fault `Begins` holds for the
+-- list of the records that it took, possibly none, at its own error for these and the one at which
+-- it stopped. Each record is converted by `of`.
 abbrev pub TableWalkEndsEarly : {X M V E : Type 0} → (List M → Type 0) → (X → M) → (V → X → V → Type 0) → (V → X → E → V → Type 0) → V → V → WalkError E
     → Type 0
 TableWalkEndsEarly {X} Begins of takes stops before after (Failed fault) = TakesListSatisfying Begins of takes before after
@@ -34,12 +33,11 @@ AreAllRecordsOfList db list all = IsTrue db.is_open × ((t : Tables) → HasDesk
 abbrev pub IsPrefixOfList : {M : Type 0} → State → (Tables → List M) → List M → Type 0
 IsPrefixOfList {M} db list first = (first ≡ []) ⊎ (IsTrue db.is_open × ((t : Tables) → HasDeskTables t db.now → (rest : List M) × (first ++ rest ≡ list t)))
 
--- The postcondition of a walk, which writes nothing: the walk passes the records that `list`
--- selects from a desk's tables to a visitor, in order, one at a time, until the last record, the
--- error of the visitor or a fault. `takes` and `stops` relate the visitor before and after it takes
--- a record or stops at one. The clauses on records, on the database and on crashes are vacuous if
--- the disk assumption fails. What they say of the selected list is also vacuous if the database
--- does not contain all tables of a desk in schema 3.
+-- The postcondition of a walk, which writes nothing: it passes the records that `list` selects from
+-- a desk's tables to a visitor, in order, one at a time, until the last record, the visitor's error
+-- or a fault. `takes` and `stops` relate the visitor before and after it takes a record or stops at
+-- one. The clauses on records, the database and crashes are vacuous if the disk assumption fails,
+-- what they say of the list also if the database does not contain all tables of a desk in schema 3.
 pub record TableWalkPost {S X M V E : Type 0} (g : Ghosts S) (old new : Held S) (of : X → M) (list : Tables → List M) (takes : V → X → V → Type 0)
     (stops : V → X → E → V → Type 0)
     (before after : V) (result : Result (Unit {0}) (WalkError E)) : Type 0 where
@@ -52,6 +50,5 @@ pub record TableWalkPost {S X M V E : Type 0} (g : Ghosts S) (old new : Held S) 
   -- If the database is open after the walk, it was open before and is unchanged.
   pub unchanged_if_open : HasCleanDisk (state g new) → IsTrue (state g new).is_open
       → IsTrue (state g old).is_open × ((state g new).now ≡ (state g old).now) × ((state g new).committed ≡ (state g old).committed)
-  -- Under the disk assumption a crash after the call exposes only states that a crash before the
-  -- call could expose.
+  -- Under the disk assumption a crash exposes only prior crash states.
   pub survives : Survives (state g old) (state g new) (λ _. ⊥)

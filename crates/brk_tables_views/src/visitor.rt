@@ -1,3 +1,5 @@
+//! The visitor of a walk.
+
 ghost use Rattle.std.specs.Prelude.{OnOk, IfErr};
 
 /// A receiver of records of the type `R`, one at a time, which may stop with an error of the type

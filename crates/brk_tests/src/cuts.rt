@@ -1,38 +1,19 @@
 //! Tests of batches that are cut: readers and writers that fail at each byte.
 
-use crate::desks::{
-    Step, desk_with_reference_data, expect_batch_result, open_in_memory, run_batch_of_reader,
-};
-use crate::faulty::{Failing, Narrow};
-use crate::tables::expect_all_tables;
-use crate::worked::{append_reply_lines, format_batch, lines_of_retry};
 use brk_desk::Desk;
 use brk_import::{BatchFault, Counts, FaultKind};
+use brk_tests_desks::desks::{
+    Step, desk_with_reference_data, expect_batch_result, run_batch_of_reader,
+};
+use brk_tests_desks::faulty::{Failing, Narrow};
+use brk_tests_desks::open_in_memory;
+use brk_tests_desks::retried::{ROWS, all_lines_of_retry, first_lines_of_batch};
+use brk_tests_desks::tables::expect_all_tables;
+use brk_tests_desks::worked::format_batch;
 use sqlite::{Alter, Connection};
 use std::alloc::Global;
 use std::io::ErrorKind;
 use std::test::Fail;
-
-/// A purchase and its result, a pending order, a tick that triggers it, its result, and a text
-/// update that would restore the old text if it were executed twice.
-pub const ROWS: [&str; 6] = [
-    "order,100,TMB,ABC,100,,cash,fifo,Ann,Lee,T10",
-    "result,1,10.10",
-    "order,100,TSL,ABC,50,9.50,cash,fifo,Ann,Lee,T10",
-    "feed,ABC,9.50,100",
-    "result,2,12.10",
-    "upname,1",
-];
-
-// The replies to `ROWS`, without the row's number and the word `ok`.
-const LINES: [&str; 6] = [
-    "1709251200016,1,SBMT,10.00,0.00,0.00,0.00,10.00,5.00,10000.00",
-    "1709251200017,10.10,0.00,-1025.10,2024-03-03,0.00,0.00,8974.90",
-    "1709251200018,2,PNDG,9.50,505.00,475.00,0.00,4.75,5.00,9974.90",
-    "1709251200019,2",
-    "1709251200020,6.05,20.00,573.95,2024-03-03,505.00,605.00,9548.85",
-    "1709251200021,1",
-];
 
 // The rows of the tables after the batch, without the reference tables.
 const TABLES: &str = "DESK\n1,3,1709251200021\n\
@@ -63,26 +44,9 @@ const TABLES: &str = "DESK\n1,3,1709251200021\n\
     T,5,result\x1f2\x1f12.10,1709251200020,6.05,20.00,573.95,2024-03-03,505.00,605.00,9548.85\n\
     T,6,upname\x1f1,1709251200021,1\n";
 
-/// Returns the lines of the first `rows` rows of the batch of `ROWS`, or of all six if `rows` is
-/// greater, all accepted, on a desk after the batch `SET`, without an end line. Fails only if
-/// memory runs out.
-pub fn first_lines_of_batch(alloc: Global, rows: usize) -> Result<String, Fail> {
-    let (first, _) = LINES.split_at(rows.min(6));
-    let mut told = String::new(alloc);
-    append_reply_lines(&mut told, 1, "ok", first)?;
-    Ok(told)
-}
-
-/// Returns all lines of the batch of `ROWS` on a desk that has accepted its first `booked` rows, or
-/// all six if `booked` is greater, after the batch `SET`: the stored replies to these rows, the
-/// other rows accepted, and the end line. Fails only if memory runs out.
-pub fn all_lines_of_retry(alloc: Global, booked: usize) -> Result<String, Fail> {
-    lines_of_retry(alloc, &LINES, booked)
-}
-
-/// Checks that a batch ended with the fault `wanted`, and that the bytes `told`, which the batch
-/// wrote, are exactly the lines `lines`. Fails with `name` if not.
-pub fn expect_batch_fault(
+// Checks that a batch ended with the fault `wanted`, and that the bytes `told`, which the batch
+// wrote, are exactly the lines `lines`. Fails with `name` if not.
+fn expect_batch_fault(
     name: &str,
     ended: Result<Counts, BatchFault>,
     wanted: BatchFault,
@@ -96,13 +60,13 @@ pub fn expect_batch_fault(
     }
 }
 
-/// Executes `batch`, the whole batch of `ROWS`, on a desk that has accepted its first `booked` rows
-/// before. Checks that the batch completes, that these rows have their stored replies and the
-/// others are accepted with the replies `LINES`, and that the tables after the batch are `TABLES`,
-/// as after one execution, and the reference tables as after the batch `SET`. Fails with `name` if
-/// not, and without it if the batch writes bytes that are not UTF-8 or if the tables cannot be
-/// read. Fails also if memory runs out, with or without `name`.
-pub fn expect_completed_batch<S: Alter + Drop>(
+// Executes `batch`, the whole batch of `ROWS`, on a desk that has accepted its first `booked` rows
+// before. Checks that the batch completes, that these rows have their stored replies and the others
+// are accepted (`all_lines_of_retry`), and that the tables after the batch are `TABLES`, as after
+// one execution, and the reference tables as after the batch `SET`. Fails with `name` if not, and
+// without it if the batch writes bytes that are not UTF-8 or if the tables cannot be read. Fails
+// also if memory runs out, with or without `name`.
+fn expect_completed_batch<S: Alter + Drop>(
     alloc: Global,
     mut desk: Desk<S>,
     name: &str,

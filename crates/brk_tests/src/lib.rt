@@ -1,22 +1,18 @@
 //! Tests of desks in memory that no transcript of `crates/brk_tests_cases/data/` can show: readers
-//! and writers that fail, the creation of stores, runs of calls, walks, and the number of rows that
-//! a sale reads. The command `test` of a transcript runs one of them. A test fails if what it
-//! checks is not so, and also if a desk for it cannot be set up or memory runs out.
-//! `brk_tests_files` uses their desks, batches and tables.
+//! and writers that fail, streams of requests that come in pieces or end early, the creation of
+//! stores, runs of calls, walks, and the number of rows that a sale reads. The command `test` of a
+//! transcript runs one of them. A test fails if what it checks is not so, and also if a desk for it
+//! cannot be set up or memory runs out.
 #![tactic(auto)]
 
-pub mod cuts;
-pub mod desks;
-pub mod faulty;
+mod cuts;
+mod http;
 mod made;
 mod row_calls;
 mod rows_read;
 mod runs;
-pub mod statements;
-pub mod tables;
-pub mod worked;
+mod statements;
 
-pub use desks::{Still, expect, new_desk, open_in_memory};
 use std::alloc::Global;
 use std::test::Fail;
 
@@ -28,6 +24,14 @@ pub fn run_test(alloc: Global, name: &str) -> Option<Result<(), Fail>> {
             cuts::a_batch_can_be_retried_after_a_read_fault(alloc),
         "a_batch_can_be_retried_after_a_write_fault" =>
             cuts::a_batch_can_be_retried_after_a_write_fault(alloc),
+        "a_cut_request_gets_the_reply_400" => http::cuts::a_cut_request_gets_the_reply_400(alloc),
+        "a_stream_can_be_retried_after_a_read_fault" =>
+            http::cuts::a_stream_can_be_retried_after_a_read_fault(alloc),
+        "a_stream_can_be_retried_after_a_write_fault" =>
+            http::cuts::a_stream_can_be_retried_after_a_write_fault(alloc),
+        "streams_in_pieces_get_the_same_replies" =>
+            http::streams::streams_in_pieces_get_the_same_replies(alloc),
+        "a_head_has_at_most_16_384_bytes" => http::streams::a_head_has_at_most_16_384_bytes(alloc),
         "a_second_creation_fails" => made::a_second_creation_fails(alloc),
         "creation_preserves_other_tables" => made::creation_preserves_other_tables(alloc),
         "creation_fails_beside_a_table_name_in_other_case" =>

@@ -1,5 +1,8 @@
-use crate::desks::{create_store, expect, expect_connection, open_in_memory};
+//! Tests of the creation of a store: a second time, and next to other tables.
+
 use brk_money::{Condition, Fault};
+use brk_tests_desks::desks::{create_store, expect_connection};
+use brk_tests_desks::{expect, open_in_memory};
 use sqlite::{Alter, Connection};
 use std::alloc::Global;
 use std::test::Fail;

@@ -1,9 +1,9 @@
 //! Parsing of rows and queries into calls.
 
-use crate::worked::FIRST_MOMENT;
 use brk_desk::{Call, parse_query, parse_row};
 use brk_money::Stamp;
 use brk_ref::{BatchName, Key, RowNumber};
+use brk_tests_desks::worked::FIRST_MOMENT;
 use std::alloc::{AllocError, Global};
 use std::test::Fail;
 

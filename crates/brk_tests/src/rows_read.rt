@@ -1,11 +1,12 @@
 //! Tests of the rows that a sale reads, on a position of forty lots of one share each.
 
-use crate::desks::{desk_with_reference_data, expect, open_in_memory, run_batch_at_desk};
-use crate::worked::{FIRST_MOMENT, append_end_record, append_purchase};
 use brk_lots::{Closing, LotSource, close};
 use brk_money::{Id, Price, Qty, Side, Stamp};
 use brk_ref::Symbol;
 use brk_store::Store;
+use brk_tests_desks::desks::{desk_with_reference_data, run_batch_at_desk};
+use brk_tests_desks::worked::{FIRST_MOMENT, append_end_record, append_purchase};
+use brk_tests_desks::{expect, open_in_memory};
 use brk_trade_rows::Change;
 use sqlite::{Alter, Connection};
 use std::alloc::Global;

@@ -1,12 +1,13 @@
 //! Tests of runs of calls on a desk: refusals, stored replies, queries, and a batch of many trades.
 
-use crate::desks::{desk_with_reference_data, expect, new_desk, open_in_memory, run_batch_at_desk};
 use crate::row_calls::{parse_keyed_row_call, parse_query_call, parse_row_call, split_fields};
-use crate::worked::append_end_record;
 use brk_desk::{Answer, Call, Desk, Outcome, line_text};
 use brk_import::{BatchFault, Counts};
 use brk_money::{Id, Stamp};
 use brk_store::Store;
+use brk_tests_desks::desks::{desk_with_reference_data, run_batch_at_desk};
+use brk_tests_desks::worked::append_end_record;
+use brk_tests_desks::{expect, new_desk, open_in_memory};
 use brk_trade::Reply;
 use brk_view_rows::View;
 use sqlite::{Alter, Connection};

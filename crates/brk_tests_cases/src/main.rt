@@ -3,12 +3,15 @@
 //! line that does, as the transcript and as the replay have it.
 #![tactic(auto)]
 
+mod tests;
+
 use brk_tests_replay::{
     OutOfMemory, count_commands, first_difference, list_transcripts, replay_transcript,
 };
 use std::fmt::{Display, Formatter};
 use std::process::ExitCode;
 use std::{fmt, fs, io};
+use tests::AllTests;
 
 // The folders of the transcripts.
 const FOLDERS: [&str; 2] = [".", "files"];
@@ -71,7 +74,7 @@ fn replay_file(rt: &HostRuntime, path: String) -> Result<bool, Failed> {
         Ok(text) => text,
         Err(error) => return Err(Failed::Reading(path, error)),
     };
-    let replayed = replay_transcript(rt, text.as_str())?;
+    let replayed = replay_transcript(rt, &AllTests, text.as_str())?;
     match print_result(rt, path.as_str(), text.as_str(), replayed.as_str()) {
         Ok(is_equal) => Ok(is_equal),
         Err(error) => Err(Failed::Output(error)),

@@ -7,10 +7,10 @@ use crate::machine::{
     File, Held, MachineCrash, Sent, files_after_sql, files_with_reference_data,
     run_batch_until_crash,
 };
-use brk_tests::cuts::{ROWS, all_lines_of_retry};
-use brk_tests::desks::{connection_of_desk, desk_with_reference_data, open_in_memory};
-use brk_tests::worked;
-use brk_tests::worked::{
+use brk_tests_desks::desks::{connection_of_desk, desk_with_reference_data, open_in_memory};
+use brk_tests_desks::retried::{ROWS, all_lines_of_retry};
+use brk_tests_desks::worked;
+use brk_tests_desks::worked::{
     LAST_FIRST_LINES, LAST_FIRST_ROWS, SET, SET_LINES, format_batch, lines_of_retry,
 };
 use sqlite::{Alter, Connection};
@@ -32,9 +32,9 @@ const FIRST: &str = "UPDATE DESK SET D_SCHEMA = 1; DROP TABLE SETTLE_RULE; DROP 
 // Converts a desk to schema 2.
 const SECOND: &str = "UPDATE DESK SET D_SCHEMA = 2; DROP TABLE SETTLE_RULE";
 
-// Crashes at a call of each file, with the bytes that were not synced lost or stored. The tests
-// replace the number of calls.
-const STOPS: [MachineCrash; 4] = [
+/// Crashes at a call of each file, with the bytes that were not synced lost or stored. The tests
+/// replace the number of calls.
+pub const STOPS: [MachineCrash; 4] = [
     MachineCrash {
         name: "the log, losing",
         file: File::Log,
@@ -61,8 +61,8 @@ const STOPS: [MachineCrash; 4] = [
     },
 ];
 
-// Fails, with the name of the crash, its number of calls and the text `what`, if `is_so` is false.
-fn fail_unless(is_so: bool, stop: MachineCrash, what: &str) -> Result<(), Fail> {
+/// Fails, with the name of the crash, its number of calls and the text `what`, if `is_so` is false.
+pub fn fail_unless(is_so: bool, stop: MachineCrash, what: &str) -> Result<(), Fail> {
     if is_so {
         Ok(())
     } else {
@@ -400,10 +400,10 @@ pub fn desk_creation_recovers_from_crashes(alloc: Global) -> Result<(), Fail> {
     expect_each_crash_recovered(alloc, Work::Creation(tables.as_str()))
 }
 
-// Returns all tables of a desk in memory, as text, after the batch `SET` and each number of the
-// rows `ROWS`, from none to all six. Fails if a desk cannot be set up, if the tables cannot be
-// read, or if memory runs out.
-fn tables_after_each_row(alloc: Global) -> Result<Vec<String>, Fail> {
+/// Returns all tables of a desk in memory, as text, after the batch `SET` and each number of the
+/// rows `ROWS`, from none to all six. Fails if a desk cannot be set up, if the tables cannot be
+/// read, or if memory runs out.
+pub fn tables_after_each_row(alloc: Global) -> Result<Vec<String>, Fail> {
     let mut tables = Vec::new(alloc);
     for rows in 0..=6 {
         tables.push(tables_after_rows(alloc, rows)?)?;

@@ -6,8 +6,8 @@ use crate::machine::{
     Held, MachineCrash, Sent, files_with_reference_data, options_with_cached_pages,
     perform_job_until_crash, run_batch_until_crash,
 };
-use brk_tests::desks::expect;
-use brk_tests::worked::{append_end_record, append_purchase};
+use brk_tests_desks::desks::expect;
+use brk_tests_desks::worked::{append_end_record, append_purchase};
 use std::alloc::Global;
 use std::test::Fail;
 

@@ -6,11 +6,11 @@ use brk_import::{BatchFault, Counts};
 use brk_money::{Condition, Fault};
 use brk_report::ReportFault;
 use brk_store::Store;
-use brk_tests::desks::{
+use brk_tests_desks::desks::{
     connection_of_desk, create_store, run_batch_of_reader, serve_stream_of_reader, write_statement,
 };
-use brk_tests::statements::Asked;
-use brk_tests::tables::read_all_tables;
+use brk_tests_desks::statements::Asked;
+use brk_tests_desks::tables::read_all_tables;
 use sqlite::{Alter, Connection};
 use std::alloc::Global;
 

@@ -2,7 +2,7 @@
 //! stores the bytes that were not synced, and restarts.
 
 use crate::jobs::{Ended, Job, Observation, Task, perform_job};
-use brk_tests::worked::SET;
+use brk_tests_desks::worked::SET;
 use sqlite::{Connection, FileStore, Files, Options};
 use sqlite_disk::{Crash, Disk, Fuse, Memory};
 use std::alloc::{AllocError, Global};
@@ -75,10 +75,10 @@ impl Held {
     }
 }
 
-// Opens the database in these files. Empty files, and those that an interrupted creation of a
-// database left, get an empty database. Fails with the files if a sync of one of them has failed,
-// or if the database cannot be opened.
-fn open_database<D: Disk + Drop>(
+/// Opens the database in these files. Empty files, and those that an interrupted creation of a
+/// database left, get an empty database. Fails with the files if a sync of one of them has failed,
+/// or if the database cannot be opened.
+pub fn open_database<D: Disk + Drop>(
     alloc: Global,
     files: Files<D>,
     options: Options,
@@ -92,9 +92,9 @@ fn open_database<D: Disk + Drop>(
     }
 }
 
-// Closes the database of the connection: rolls back an open transaction and copies the log into the
-// database file. Returns the files, also if the copy fails.
-fn close_database<D: Disk + Drop>(conn: Connection<FileStore<D>>) -> Files<D> {
+/// Closes the database of the connection: rolls back an open transaction and copies the log into
+/// the database file. Returns the files, also if the copy fails.
+pub fn close_database<D: Disk + Drop>(conn: Connection<FileStore<D>>) -> Files<D> {
     match conn.close_files() {
         Ok(files) => files,
         Err((_, store)) => store.close(),
@@ -120,22 +120,26 @@ fn perform_job_in_files<D: Disk + Drop>(
 
 // Returns a file in memory with these bytes, all synced. It accepts `calls` calls and fails at each
 // later call. Fails only if memory runs out.
-fn failing_file_with_bytes(alloc: Global, bytes: &[u8], calls: u64) -> Result<Fuse<Memory>, Fail> {
+fn failing_file_with_bytes(
+    alloc: Global,
+    bytes: &[u8],
+    calls: u64,
+) -> Result<Fuse<Memory>, AllocError> {
     let mut file = Memory::new(alloc);
     if file.write_at(0, bytes).is_err() || file.sync().is_err() {
-        return Err("no memory for a file")?;
+        return Err(AllocError);
     }
     Ok(Fuse::new(file, calls))
 }
 
-// Returns the two files of a desk in memory, with the bytes `held`, all synced. The file
-// `stop.file` accepts `stop.calls` calls and fails at each later call; the other one accepts all
-// calls. Fails only if memory runs out.
-fn files_failing_at_crash(
+/// Returns the two files of a desk in memory, with the bytes `held`, all synced. The file
+/// `stop.file` accepts `stop.calls` calls and fails at each later call; the other one accepts all
+/// calls. Fails only if memory runs out.
+pub fn files_failing_at_crash(
     alloc: Global,
     held: &Held,
     stop: MachineCrash,
-) -> Result<Files<Fuse<Memory>>, Fail> {
+) -> Result<Files<Fuse<Memory>>, AllocError> {
     let (log_calls, db_calls) = match stop.file {
         File::Log => (stop.calls, u64::MAX),
         File::Database => (u64::MAX, stop.calls),
@@ -162,10 +166,10 @@ fn append_bytes_after_crash(
     Ok(was_stopped)
 }
 
-// Returns the bytes of the files after the restart (`append_bytes_after_crash`), and a flag: true
-// if a sync of one of the files had failed before, or if the next call of one of them would fail.
-// Fails only if memory runs out.
-fn files_after_crash(
+/// Returns the bytes of the files after the restart (`append_bytes_after_crash`), and a flag: true
+/// if a sync of one of the files had failed before, or if the next call of one of them would fail.
+/// Fails only if memory runs out.
+pub fn files_after_crash(
     alloc: Global,
     files: Files<Fuse<Memory>>,
     loses: bool,
@@ -189,7 +193,7 @@ pub struct Sent {
 /// The number of pages that a database of these tests caches if all its pages are to be cached:
 /// more than the file of any test has, and fewer than the 2,000 of `Options::new`, which take
 /// longer to allocate than most jobs to perform.
-const CACHED_PAGES: usize = 200;
+pub const CACHED_PAGES: usize = 200;
 
 /// Returns the options of a database that caches at most `pages` of the pages that it reads, or one
 /// if `pages` is 0. The other options equal `Options::new` with the seed 1.

@@ -6,8 +6,8 @@ use crate::machine::{
     Held, MachineCrash, Sent, options_with_cached_pages, perform_job_until_crash,
     run_batch_until_crash,
 };
-use brk_tests::desks::expect;
-use brk_tests::statements::account_and_days;
+use brk_tests_desks::desks::expect;
+use brk_tests_desks::statements::account_and_days;
 use std::alloc::Global;
 use std::test::Fail;
 

@@ -8,7 +8,7 @@ use crate::records::{
     append_refusal_line, append_rows_of_all_tables, execute_ask_command, execute_print_command,
 };
 use crate::replay::{Piece, append_escaped_output_lines, append_output_line};
-use crate::tests::execute_test_command;
+use crate::tests::{NamedTests, execute_test_command};
 use brk_desk::Desk;
 use brk_explain::{parse_explain, write_explanation};
 use brk_http::serve_stream;
@@ -427,13 +427,14 @@ fn execute_file_command_with_lines(
     execute_file_command(rt, out, verb, words, &input)
 }
 
-/// Executes the command `command` with its input lines `pieces`: a test, a command over files, one
-/// that opens a new desk or database, or one on the open desk or database. Appends its output
-/// lines, and returns the desk or database that is open after it. If the command needs a desk or is
-/// unknown, and no desk is open, appends only `! no desk`; if it is unknown and a desk is open,
-/// appends only `! no such command`. Fails only if memory runs out.
-pub fn execute_command(
+/// Executes the command `command` with its input lines `pieces`: one of `tests`, a command over
+/// files, one that opens a new desk or database, or one on the open desk or database. Appends its
+/// output lines, and returns the desk or database that is open after it. If the command needs a
+/// desk or is unknown, and no desk is open, appends only `! no desk`; if it is unknown and a desk is
+/// open, appends only `! no such command`. Fails only if memory runs out.
+pub fn execute_command<T: NamedTests>(
     rt: &HostRuntime,
+    tests: &T,
     out: &mut String,
     place: Place,
     command: &str,
@@ -447,7 +448,7 @@ pub fn execute_command(
                 Err(failed) => Err(failed),
             }
         }
-        "test" => match execute_test_command(rt, out, words) {
+        "test" => match execute_test_command(rt, tests, out, words) {
             Ok(()) => Ok(place),
             Err(failed) => Err(failed),
         },

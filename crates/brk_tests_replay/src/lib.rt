@@ -17,3 +17,4 @@ pub use comparison::{Difference, first_difference};
 pub use failed::OutOfMemory;
 pub use listing::list_transcripts;
 pub use replay::{count_commands, replay_transcript};
+pub use tests::NamedTests;

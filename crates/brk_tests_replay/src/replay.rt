@@ -3,6 +3,7 @@
 
 use crate::commands::{Place, execute_command};
 use crate::failed::OutOfMemory;
+use crate::tests::NamedTests;
 use std::alloc::{AllocError, Global};
 
 /// An input line of a transcript, without its escapes.
@@ -154,14 +155,15 @@ struct Due<'a> {
 
 // Executes the pending command, if there is one, appends its output lines, and returns the desk or
 // the database that is open after it. Fails only if memory runs out.
-fn execute_pending_command(
+fn execute_pending_command<T: NamedTests>(
     rt: &HostRuntime,
+    tests: &T,
     out: &mut String,
     place: Place,
     due: Option<Due<'_>>,
 ) -> Result<Place, OutOfMemory> {
     match due {
-        Some(due) => execute_command(rt, out, place, due.command, &due.pieces),
+        Some(due) => execute_command(rt, tests, out, place, due.command, &due.pieces),
         None => Ok(place),
     }
 }
@@ -208,14 +210,15 @@ impl<'a> Replay<'a> {
     // Executes the pending command, if there is one, copies the line `line` to the replay, and
     // starts the next pending command with it; after a comment or an empty line, no command is
     // pending. Returns the state of the replay after it. Fails only if memory runs out.
-    fn execute_pending_and_start_next(
+    fn execute_pending_and_start_next<T: NamedTests>(
         self,
         rt: &HostRuntime,
+        tests: &T,
         out: &mut String,
         line: &'a str,
     ) -> Result<Replay<'a>, OutOfMemory> {
         let Replay { place, due } = self;
-        let place = execute_pending_command(rt, out, place, due)?;
+        let place = execute_pending_command(rt, tests, out, place, due)?;
         writeln!(out, "{line}")?;
         let due = if is_comment_or_empty(line) {
             None
@@ -233,9 +236,10 @@ impl<'a> Replay<'a> {
     // adds it to the pending command, if there is one; executes the pending command, if any, at any
     // other line and copies this line, which starts the next command unless it is a comment or
     // empty. Fails only if memory runs out.
-    fn process_line(
+    fn process_line<T: NamedTests>(
         self,
         rt: &HostRuntime,
+        tests: &T,
         out: &mut String,
         line: &'a str,
     ) -> Result<Replay<'a>, OutOfMemory> {
@@ -247,24 +251,29 @@ impl<'a> Replay<'a> {
                 writeln!(out, "{line}")?;
                 self.with_input_line(rt.alloc(), text)
             }
-            None => self.execute_pending_and_start_next(rt, out, line),
+            None => self.execute_pending_and_start_next(rt, tests, out, line),
         }
     }
 }
 
 /// Executes the commands of a transcript, and returns the transcript with their new output lines in
-/// place of the old ones. A line feed that is missing at the end of the transcript is added.
+/// place of the old ones. The command `test` runs one of `tests`. A line feed that is missing at
+/// the end of the transcript is added.
 ///
 /// Fails only if memory runs out.
-pub fn replay_transcript(rt: &HostRuntime, text: &str) -> Result<String, OutOfMemory> {
+pub fn replay_transcript<T: NamedTests>(
+    rt: &HostRuntime,
+    tests: &T,
+    text: &str,
+) -> Result<String, OutOfMemory> {
     let mut out = String::new(rt.alloc());
     let mut replay = Replay {
         place: Place::Nothing,
         due: None,
     };
     for line in text.strip_suffix('\n').unwrap_or(text).split('\n') {
-        replay = replay.process_line(rt, &mut out, line)?;
+        replay = replay.process_line(rt, tests, &mut out, line)?;
     }
-    execute_pending_command(rt, &mut out, replay.place, replay.due)?;
+    execute_pending_command(rt, tests, &mut out, replay.place, replay.due)?;
     Ok(out)
 }

@@ -2,49 +2,26 @@
 
 use crate::failed::OutOfMemory;
 use crate::replay::append_output_line;
-use std::alloc::Global;
 use std::process::Termination;
 use std::test::Fail;
 
-// Runs the test `name` of `brk_tests_unit` or of `brk_tests_interfaces`. Returns `None` if no test of
-// these crates has this name, and otherwise the result of the test.
-fn run_test_without_database(rt: &HostRuntime, name: &str) -> Option<Result<(), Fail>> {
-    match brk_tests_unit::run_test(rt.alloc(), name) {
-        None => brk_tests_interfaces::run_test(rt, name),
-        tested => tested,
-    }
+/// The tests that the command `test` of a transcript runs by their names.
+pub trait NamedTests {
+    /// Runs the test `name`. Returns `None` if no test has this name, and otherwise the result of
+    /// the test.
+    fn run(&self, rt: &HostRuntime, name: &str) -> Option<Result<(), Fail>>;
 }
 
-// Runs the test `name` of `brk_tests` or of `brk_tests_files`. Returns `None` if no test of these
-// crates has this name, and otherwise the result of the test.
-fn run_test_over_desks(alloc: Global, name: &str) -> Option<Result<(), Fail>> {
-    match brk_tests::run_test(alloc, name) {
-        None => brk_tests_files::run_test(alloc, name),
-        tested => tested,
-    }
-}
-
-// Runs the test `name` of one of the five crates of tests. Returns `None` if no test has this name,
-// and otherwise the result of the test.
-fn run_test(rt: &HostRuntime, name: &str) -> Option<Result<(), Fail>> {
-    match brk_tests_surface::run_test(rt, name) {
-        None => match run_test_without_database(rt, name) {
-            None => run_test_over_desks(rt.alloc(), name),
-            tested => tested,
-        },
-        tested => tested,
-    }
-}
-
-/// Runs the test `name` (`run_test`). Appends the output line `ok` if the test succeeds, and `! no
+/// Runs the test `name` of `tests`. Appends the output line `ok` if the test succeeds, and `! no
 /// such test` if no test has this name. If the test fails, writes its failure to standard error,
 /// ignoring a failure to write, and appends `failed`. Fails only if memory runs out.
-pub fn execute_test_command(
+pub fn execute_test_command<T: NamedTests>(
     rt: &HostRuntime,
+    tests: &T,
     out: &mut String,
     name: &str,
 ) -> Result<(), OutOfMemory> {
-    match run_test(rt, name) {
+    match tests.run(rt, name) {
         None => append_output_line(out, "! no such test"),
         Some(Ok(())) => append_output_line(out, "ok"),
         Some(failure) => {

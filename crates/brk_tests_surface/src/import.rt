@@ -1,8 +1,8 @@
 use brk_desk::Desk;
 use brk_import::{BatchFault, Clock, Counts, FaultKind, run_batch};
 use brk_money::Stamp;
-use brk_tests::worked::FIRST_MOMENT;
-use brk_tests::{Still, expect, new_desk, open_in_memory};
+use brk_tests_desks::worked::FIRST_MOMENT;
+use brk_tests_desks::{Still, expect, new_desk, open_in_memory};
 use brk_tests_unit::expect::expect_equal;
 use sqlite::{Alter, Connection};
 use std::alloc::Global;

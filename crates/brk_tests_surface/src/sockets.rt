@@ -3,7 +3,7 @@
 use brk_cli_exit::Ending;
 use brk_cli_jobs::serve_on;
 use brk_desk::Desk;
-use brk_tests::{Still, expect, new_desk, open_in_memory};
+use brk_tests_desks::{Still, expect, new_desk, open_in_memory};
 use sqlite::{Alter, Connection};
 use std::alloc::Global;
 use std::io;

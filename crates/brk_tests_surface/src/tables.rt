@@ -1,8 +1,8 @@
 use brk_money::{Fault, Id, Stamp};
 use brk_ref::{BrokerRow, check_broker};
 use brk_tables::{add_broker, broker_by_id, create_desk_tables, last_stamp, set_last_stamp};
-use brk_tests::desks::expect_connection;
-use brk_tests::{expect, open_in_memory};
+use brk_tests_desks::desks::expect_connection;
+use brk_tests_desks::{expect, open_in_memory};
 use sqlite::{Alter, Connection, Transaction};
 use std::alloc::Global;
 use std::test::Fail;

@@ -3,7 +3,8 @@ use brk_desk::line_text;
 use brk_lots::{LotSource, Position};
 use brk_money::{Cents, Day, Id, MoveId, Planned, Price, Qty, Stamp, Status, TradeType};
 use brk_ref::{
-    AccountRow, LastTrade, MovedAmount, RequestRow, SummaryRow, Symbol, Volume, check_broker,
+    AccountRow, BrokerRow, LastTrade, MovedAmount, RequestRow, SummaryRow, Symbol, Volume,
+    check_broker,
 };
 use brk_ref_orders::{
     Direction, Feed, Movement, Order, Update, parse_executor_update, parse_market_feed,
@@ -14,9 +15,9 @@ use brk_tests_unit::planned_reply::expect_planned_reply;
 use brk_tests_unit::plans::{PURCHASE, purchase_facts};
 use brk_tests_unit::result_plans::{SUBMITTED_CASH_PURCHASE, result_facts, trade_row_of_case};
 use brk_trade::{
-    BrokerTotals, Change, MovementPlanFacts, OrderPlanFacts, Plan, Quote, Reference,
-    ReferenceFacts, Reply, ResultPlanFacts, TextUpdate, plan_cancel, plan_estimate, plan_feed,
-    plan_move, plan_oneday, plan_order, plan_reference, plan_result, plan_update,
+    Change, MovementPlanFacts, OrderPlanFacts, Plan, Quote, Reference, ReferenceFacts, Reply,
+    ResultPlanFacts, TextUpdate, plan_cancel, plan_estimate, plan_feed, plan_move, plan_oneday,
+    plan_order, plan_reference, plan_result, plan_update,
 };
 use std::alloc::Global;
 use std::test::Fail;
@@ -236,10 +237,10 @@ fn expect_plans_of_purchase(alloc: Global, found: &OrderPlanFacts) -> Result<(),
 // The rows that decide on a result: the account's, the broker's, and the summary's or none.
 fn are_rows_before_result(
     account: &AccountRow,
-    broker: &BrokerTotals,
+    broker: &BrokerRow,
     summary: &Option<SummaryRow>,
 ) -> bool {
-    account.balance.get() == 1_000_000 && broker.trades.get() == 0 && summary.is_none()
+    account.balance.get() == 1_000_000 && broker.trades == 0 && summary.is_none()
 }
 
 fn plan_of_result(alloc: Global, found: &ResultPlanFacts) -> Result<Plan, Fail> {

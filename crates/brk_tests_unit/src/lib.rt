@@ -60,6 +60,8 @@ pub fn run_test(alloc: Global, name: &str) -> Option<Result<(), Fail>> {
             result_plans::results_respect_broker_and_balance_limits(alloc),
         "results_respect_holding_summary_limits" =>
             result_plans::results_respect_holding_summary_limits(alloc),
+        "a_result_needs_a_possible_number_of_trades" =>
+            result_plans::a_result_needs_a_possible_number_of_trades(alloc),
         "closings_equal_those_of_single_shares" => slow_lots::closings_equal_those_of_single_shares(
             alloc,
         ),

@@ -1,18 +1,21 @@
 use crate::expect::expect;
 use crate::planned_reply::expect_planned_reply;
 use brk_lots::Position;
-use brk_money::{Cents, Id, MoveId, Price, Qty, Rate, Stamp, Status, TaxRate, TradeType};
-use brk_ref::{AccountRow, ChargeAmount, Listing, Symbol, Tier, check_account, check_security};
+use brk_money::{Cents, Fault, Id, MoveId, Price, Qty, Rate, Stamp, Status, TaxRate, TradeType};
+use brk_ref::{
+    AccountRow, BrokerRow, ChargeAmount, Listing, Symbol, Tier, check_account, check_broker,
+    check_security,
+};
 use brk_trade::{
-    Amount, BrokerTotals, Posting, ResultPlanFacts, SummaryRow, TradeCount, TradeParties, TradeRow,
-    TradedSecurity, plan_result,
+    Amount, Posting, ResultPlanFacts, SummaryRow, TradeParties, TradeRow, TradedSecurity,
+    plan_result,
 };
 use std::alloc::Global;
 use std::test::Fail;
 
 /// A trade of ABC before its result: its type, quantity, cash or margin, status and commission rate
-/// in hundredths of a percent, the shares held, the balance and the broker's commissions in cents,
-/// and the last stamp in milliseconds.
+/// in hundredths of a percent, the shares held, the balance in cents, the broker's completed trades
+/// and its commissions in cents, and the last stamp in milliseconds.
 #[derive(Clone, Copy)]
 pub struct Case {
     kind: TradeType,
@@ -22,12 +25,13 @@ pub struct Case {
     rate: Option<u32>,
     held: Option<i64>,
     balance: i64,
+    trades: i64,
     commissions: u64,
     last: i64,
 }
 
 /// The case of a submitted cash purchase of 100 shares at a balance of 10000.00, with a commission
-/// rate of one percent, without shares held and without earlier commissions.
+/// rate of one percent, without shares held and without earlier trades and commissions.
 pub const SUBMITTED_CASH_PURCHASE: Case = Case {
     kind: TradeType::MarketBuy,
     qty: 100,
@@ -36,6 +40,7 @@ pub const SUBMITTED_CASH_PURCHASE: Case = Case {
     rate: Some(100),
     held: None,
     balance: 1_000_000,
+    trades: 0,
     commissions: 0,
     last: 1_709_251_200_016,
 };
@@ -82,12 +87,12 @@ fn account_of_case(alloc: Global, case: &Case) -> Result<AccountRow, Fail> {
     })
 }
 
-// Returns the broker totals before the result of a case: no trades, and the commissions of the
-// case. Fails if the commissions are not within their limits.
-fn broker_totals_of_case(case: &Case) -> Result<BrokerTotals, Fail> {
-    Ok(BrokerTotals {
-        trades: TradeCount::new(0).ok_or("trades")?,
-        commissions: Amount::new(case.commissions).ok_or("commissions")?,
+// Returns the row of broker 1 before the result of a case. Fails only if memory runs out.
+fn broker_of_case(alloc: Global, case: &Case) -> Result<BrokerRow, Fail> {
+    Ok(BrokerRow {
+        broker: check_broker(alloc, &[b"1", b"Bo"])??,
+        trades: case.trades,
+        commissions: case.commissions,
     })
 }
 
@@ -96,7 +101,7 @@ fn broker_totals_of_case(case: &Case) -> Result<BrokerTotals, Fail> {
 fn parties_of_case(alloc: Global, case: &Case) -> Result<TradeParties, Fail> {
     Ok(TradeParties {
         account: account_of_case(alloc, case)?,
-        broker: broker_totals_of_case(case)?,
+        broker: broker_of_case(alloc, case)?,
         tier: Tier::new(1).ok_or("tier")?,
         rates: TaxRate::new(20_000).ok_or("rates")?,
     })
@@ -129,8 +134,8 @@ fn security_of_case(alloc: Global, case: &Case) -> Result<TradedSecurity, Fail> 
 
 /// Returns the facts of the tables on which the plan for the result of a case depends, with tax
 /// rates of 20 percent in all, no first day of one-day settlement, and 1 as the number of the next
-/// cash row. Fails if the quantity, the rate, the balance or the commissions of the case are not
-/// within their limits, and if memory runs out; the shares held are not checked.
+/// cash row. Fails if the quantity, the rate or the balance of the case is not within its limits,
+/// and if memory runs out; the shares held and the broker's totals are not checked.
 pub fn result_facts(alloc: Global, case: &Case) -> Result<ResultPlanFacts, Fail> {
     let next = MoveId::new(1).ok_or("number")?;
     Ok(ResultPlanFacts {
@@ -302,6 +307,46 @@ const LIMITS: [(Case, &str); 3] = [
 pub fn results_respect_broker_and_balance_limits(alloc: Global) -> Result<(), Fail> {
     for (case, wanted) in &LIMITS {
         expect_case_reply(alloc, case, wanted)?;
+    }
+    Ok(())
+}
+
+// The greatest number of completed trades of a broker.
+const GREATEST_TRADE_COUNT: i64 = 1_000_000_000_000;
+
+// Numbers of completed trades that no broker can have.
+const IMPOSSIBLE_TRADE_COUNTS: [i64; 4] = [i64::MIN, -1, GREATEST_TRADE_COUNT + 1, i64::MAX];
+
+// Checks that the result of the trade of a case fails with `Store`. Fails if not, and if memory runs
+// out.
+fn expect_store_fault(alloc: Global, case: &Case) -> Result<(), Fail> {
+    let found = result_facts(alloc, case)?;
+    let price = Price::new(1_010).ok_or("price")?;
+    let position = Position::new(alloc);
+    let mut end = position.from_end(false);
+    let now = Stamp::nearest(1_709_251_200_000);
+    let planned = plan_result(alloc, Some(&found), price, &mut end, None, now);
+    expect(
+        matches!(planned, Err(Fault::Store)),
+        "a count that no broker has is planned with",
+    )
+}
+
+/// Checks that a result is planned if the broker's number of completed trades is the greatest, and
+/// that it fails with `Store` if the number is out of range, whatever else would refuse it. Fails if
+/// not, and if memory runs out.
+pub fn a_result_needs_a_possible_number_of_trades(alloc: Global) -> Result<(), Fail> {
+    let greatest = Case {
+        trades: GREATEST_TRADE_COUNT,
+        ..SUBMITTED_CASH_PURCHASE
+    };
+    expect_case_reply(alloc, &greatest, TOLD)?;
+    for trades in IMPOSSIBLE_TRADE_COUNTS {
+        let case = Case {
+            trades,
+            ..WITHOUT_COMMISSION_BAND
+        };
+        expect_store_fault(alloc, &case)?;
     }
     Ok(())
 }

@@ -16,9 +16,8 @@ use Rattle.brk_lots.specs.Sources.{YieldsPosition}
 use Rattle.brk_lots.specs.declared.lot.Lot.{Lot}
 use Rattle.brk_lots.specs.declared.closed_values.Values.{Values}
 
--- The tax on the realised gain of `values`, in whole cents, rounded half up (`tax`), where `rates`
--- is the sum of the tax rates in hundred-thousandths. The tax is 0 if gains are not taxable at the
--- tax status `status`, or if there is no gain.
+-- The tax on the realised gain of `values`, in whole cents, rounded half up (`tax`); `rates` is the
+-- sum of the tax rates in hundred-thousandths. 0 if gains are not taxable at `status`, or no gain.
 abbrev pub tax_on_gain_at_status : TaxStatus → ℕ → Values → ℕ
 tax_on_gain_at_status status rates values = if is_taxable_status status then tax (pos values.sell_value -ℤ pos values.buy_value) rates else 0
 
@@ -27,12 +26,11 @@ tax_on_gain_at_status status rates values = if is_taxable_status status then tax
 abbrev pub commission_from_terms : Terms → ℕ
 commission_from_terms terms = commission terms.rate terms.qty terms.price
 
--- `terms` are the terms of the order `o` in `base`: its side, quantity and price, the tax status
--- and the assets of its account, the sum of the tax rates of the account's customer, and the
--- commission rate and the charge that apply. If the account, its customer or the security does not
--- exist, the defaults of the model's definitions apply: untaxed; customer, tier and last price 0;
--- an empty exchange. False if no commission rate or no charge applies. The record says nothing of
--- `terms.held`.
+-- `terms` are the terms of the order `o` in `base`: side, quantity and price, tax status and assets
+-- of its account, the sum of its customer's tax rates, and the commission rate and charge that
+-- apply. If account, customer or security does not exist, the model's defaults apply: untaxed;
+-- customer, tier and last price 0; an empty exchange. False if no rate or no charge applies.
+-- Nothing is said of `terms.held`.
 pub record AreOrderTermsInBase (base : Base) (o : Order) (terms : Terms) : Type 0 where
   pub side : terms.side ≡ side_of_trade_type (trade_type_of_order_type o.order_type)
   pub qty : terms.qty ≡ o.qty
@@ -48,16 +46,14 @@ pub record AreOrderTermsInBase (base : Base) (o : Order) (terms : Terms) : Type 
       ≡ Some terms.charge
   pub assets : terms.assets ≡ assets_of_account base o.account
 
--- The deal of an order with the terms `terms` that is placed as the trade `trade` and completed at
--- the price of the terms and at `stamp`. It closes the newest lots first if `lifo`, otherwise the
--- oldest.
+-- The deal of an order with the terms `terms`, as the trade `trade`, completed at the price of the
+-- terms and at `stamp`; it closes the newest lots first if `lifo`, otherwise the oldest.
 abbrev pub deal_from_terms : Terms → (trade stamp : ℕ) → Bool → Deal
 deal_from_terms terms trade stamp lifo = record { trade = trade; side = terms.side; qty = terms.qty; price = terms.price; stamp = stamp; is_lifo = lifo }
 
--- For all lots of a position that the source may return (`given`) from one end of the position,
--- none of them opened by the trade of the order: from `before` to `after`, the number of lots
--- requested from the source grew by at most one more than the number of lots that an order with the
--- terms `terms` closes or reduces. Vacuous if `given` holds of no list of lots of a position.
+-- For all lots of a position that the source may return (`given`) from one end, none opened by the
+-- order's trade: from `before` to `after`, the number of requested lots grew by at most one more
+-- than the order closes or reduces. Vacuous if `given` holds of no list of lots of a position.
 abbrev pub OrderReadsAtMostOneLotMore : Terms → (List Lot → Type 0) → (before after : ℕ) → Type 0
 OrderReadsAtMostOneLotMore terms given before after =
     (ls : List Lot) (trade stamp : ℕ) (lifo : Bool) → YieldsPosition given lifo ls → AreOpenedByOtherTrades trade ls

@@ -38,9 +38,8 @@ use Rattle.brk_trade_plans.specs.declared.reply.Reply.TheVariants.{Ordered, Esti
 use Rattle.brk_ref.specs.declared.request_row.RequestRow.{RequestRow}
 use Rattle.brk_ref.specs.declared.trade_row.TradeRow.{TradeRow}
 
--- The checks of an order against the facts `found`, in this order: its account and its security
--- exist (`NoAccount`, `NoSecurity`), its executor is permitted (`NotPermitted`), and a charge and a
--- commission rate apply (`NoCharge`, `NoRate`).
+-- The checks of an order, in this order: account and security exist (`NoAccount`, `NoSecurity`),
+-- the executor is permitted (`NotPermitted`), a charge and a rate apply (`NoCharge`, `NoRate`).
 abbrev pub order_checks : OrderPlanFacts → List RefusalCheck
 order_checks found =
     (is_none found.account, NoAccount) ∷ (is_none found.last_price, NoSecurity) ∷ (not found.is_permitted, NotPermitted)
@@ -50,8 +49,7 @@ order_checks found =
 abbrev pub requested_or_last_price : Order → ℕ → ℕ
 requested_or_last_price order last = unwrap_or (price_of_order_type order.order_type) last
 
--- The terms of `order` from the facts `found`. A number that is missing counts as 0, and a missing
--- account as untaxed.
+-- The terms of `order` from the facts `found`; a missing number counts as 0, an account as untaxed.
 abbrev pub terms_of_order : Order → OrderPlanFacts → Terms
 terms_of_order order found = record {
   side = side_of_trade_type (trade_type_of_order_type order.order_type);
@@ -65,17 +63,15 @@ terms_of_order order found = record {
   held = unwrap_or found.summary (pos 0);
 }
 
--- `order` passes its checks against the facts `found`, and `placement` has the terms of the order
--- and the broker of the order's account.
+-- `order` passes its checks, and `placement` has its terms and the broker of its account.
 pub record IsCheckedPlacement (order : Order) (found : OrderPlanFacts) (placement : Placement) : Type 0 where
   pub tested : first_refusal (order_checks found) ≡ None
   pub terms : placement.terms ≡ terms_of_order order found
   pub broker : placement.broker ≡ option_map_or (λ a. a.broker) found.account 0
 
--- For every base and every order that has the terms `terms` in this base, `estimate` equals the
--- model's estimate of the order, if the open shares of its account and symbol are the shares of the
--- lots `ls` of a position, the source may return these lots (`given`) from the end that the order
--- closes first, and their quantities sum to the shares held, `terms.held`.
+-- For every base and order with the terms `terms` in it, `estimate` equals the model's, if the lots
+-- `ls` of a position have the open shares of its account and symbol, the source may return them
+-- (`given`) from the end that the order closes first, and they sum to `terms.held`.
 abbrev pub MatchesModelEstimate : Terms → (List Lot → Type 0) → Estimate → Type 0
 MatchesModelEstimate terms given estimate =
     (base : Base) (o : model.Order) (ls : List Lot) → AreOrderTermsInBase base o terms
@@ -95,20 +91,17 @@ pub record RepliesWithEstimate (order : Order) (found : OrderPlanFacts) (given :
   pub checked : EstimatesCheckedOrder order found given estimate
 
 -- The check that a free id exists for a new trade (`Range(Trades)`): `last`, the greatest id of a
--- trade, is below the limit of ids (`greatest_id`). It passes if `last` is `None`, which means that
--- there are no trades.
+-- trade, if there is one, is below the limit (`greatest_id`).
 abbrev pub free_trade_id_check : Option ℕ → RefusalCheck
 free_trade_id_check last = (nat_le greatest_id (unwrap_or last 0), Range limit.Trades)
 
--- The id of the next trade: `last`, the greatest id of a trade, plus 1, or 1 if `last` is `None`,
--- which means that there are no trades.
+-- The id of the next trade: the greatest id of a trade plus 1, or 1 if there are no trades.
 abbrev pub next_trade_id : Option ℕ → ℕ
 next_trade_id last = unwrap_or last 0 + 1
 
--- The TRADE row of `order` with the terms `terms`, the id `trade`, the stamp `stamp`, the symbol
--- `symbol` and the executor's name `executor`. It has the first status of its type, the price of
--- the terms as its bid price, the charge and the commission of the terms, no completion price, and
--- tax 0.
+-- The TRADE row of `order` with the terms `terms`, the id `trade`, the stamp `stamp`, and these
+-- texts. It has the first status of its type, the price of the terms as its bid price, their charge
+-- and commission, no completion price, and tax 0.
 abbrev pub trade_row_with_texts : Order → Terms → (trade stamp : ℕ) → (symbol executor : Text) → tables.TradeRow
 trade_row_with_texts order terms trade stamp symbol executor = record {
   id = trade;
@@ -128,8 +121,7 @@ trade_row_with_texts order terms trade stamp symbol executor = record {
   is_lifo = order.is_lifo;
 }
 
--- The TRADE row of `order` with the terms `terms`, the id `trade`, the stamp `stamp`, the symbol of
--- the order, and the name of its executor.
+-- The TRADE row of `order`, with its symbol and the name of its executor (`trade_row_with_texts`).
 abbrev pub trade_row_of_order : Order → Terms → (trade stamp : ℕ) → tables.TradeRow
 trade_row_of_order order terms trade stamp =
     trade_row_with_texts order terms trade stamp order.symbol (model_orders.executor_name (abstract_executor order.executor))
@@ -148,25 +140,22 @@ request_row_of_order order terms broker trade =
       broker = broker;
     })
 
--- The row changes that add a trade: its TRADE row `row`, its first TRADE_HISTORY row and its
--- request, if any, are added, and the last stamp is set to the stamp of the row.
+-- The row changes that add a trade: TRADE, first TRADE_HISTORY, request, if any, last stamp.
 abbrev pub row_changes_of_order : TradeRow → Option RequestRow → List Change
 row_changes_of_order row request =
     change.AddTrade row ∷ change.AddHistory (record { trade = row.id; status = row.status; stamp = row.stamp })
     ∷ map change.AddRequest (option_to_list request) ++ change.SetLastStamp row.stamp ∷ []
 
--- `changes` are the row changes that add `trade`, which `order` placed with the terms `terms` at
--- `stamp`. `broker` is the broker of the order's account.
+-- `changes` are the row changes that add `trade`, which `order` placed with `terms` at `stamp`.
 pub record AreOrderChanges (order : Order) (terms : Terms) (broker trade stamp : ℕ) (changes : List Change) : Type 0 where
   pub row : TradeRow
   pub added : abstract_trade_row row ≡ trade_row_of_order order terms trade stamp
   pub changed : changes ≡ row_changes_of_order row (request_row_of_order order terms broker trade)
 
--- `plan` adds the trade of `order` at the stamp of the command, with the next id, where `found` are
--- the facts in the tables, `given` is true of each list of lots that the source may return, `last`
--- is the last stamp, and `now` the clock reading. The order passes its checks, a free id and a
--- stamp later than `last` exist, and the reply has the stamp, the id, the first status and the
--- estimate from the lots of the source (`MatchesModelEstimate`).
+-- `plan` adds the trade of `order` at the stamp of the command, with the next id. `found` are the
+-- facts in the tables, `given` is true of the lots that the source may return, `last` is the last
+-- stamp, `now` the clock reading. The order passes its checks, a free id and a later stamp exist,
+-- and the reply has the stamp, the id, the first status and the estimate (`MatchesModelEstimate`).
 pub record IsOrderPlan (order : Order) (found : OrderPlanFacts) (given : List Lot → Type 0) (last : Option ℕ) (now : ℕ) (plan : Plan) : Type 0 where
   pub stamp : ℕ
   pub estimate : Estimate

@@ -24,7 +24,7 @@ use Rattle.brk_money.specs.declared.refusal.Refusal.TheVariants.{NoTrade}
 use Rattle.brk_money.specs.declared.status.Status.TheVariants as status
 use Rattle.brk_ref.specs.Rows.{abstract_cash_row}
 use Rattle.brk_trade.specs.Outcomes.{deal_of_trade_row, checks_before_reading_lots, result_checks, figures_of_result, reply_figures_of_result}
-use Rattle.brk_trade.specs.Outcomes.{quantity_in_summary, shares_held_before_trade}
+use Rattle.brk_trade.specs.Outcomes.{is_trade_count, quantity_in_summary, shares_held_before_trade}
 use Rattle.brk_ref.specs.declared.cash_type.CashType.{CashType}
 use Rattle.brk_ref.specs.declared.cash_type.CashType.TheVariants as cash_type
 use Rattle.brk_trade_rows.specs.declared.change.Change.{Change}
@@ -46,8 +46,7 @@ row_change_of_touched_holding touch = if is_zero touch.after then change.RemoveL
 abbrev pub row_change_adding_lot_history : ℕ → Touch → Change
 row_change_adding_lot_history trade touch = change.AddLotChange (record { lot = touch.lot; trade = trade; before = touch.before; after = touch.after })
 
--- The row changes of the lot of `touch`, which `trade` closes or reduces: of its HOLDING row, and
--- of its new HOLDING_HISTORY row.
+-- The row changes of the lot of `touch`, closed or reduced by `trade`: HOLDING and HOLDING_HISTORY.
 abbrev pub row_changes_of_touched_lot : ℕ → Touch → List Change
 row_changes_of_touched_lot trade touch = row_change_of_touched_holding touch ∷ row_change_adding_lot_history trade touch ∷ []
 
@@ -65,8 +64,7 @@ row_change_of_summary (Some held) t qty =
     if is_zero qty then change.RemoveSummary t.account t.symbol
     else change.SetSummary (record { account = t.account; symbol = t.symbol; qty = qty })
 
--- The settlement text (SE_CASH_TYPE) that a completion records: `CashAccount` for a cash trade
--- (`is_cash`), `Margin` for a margin trade.
+-- The settlement text (SE_CASH_TYPE) of a completion: `CashAccount` for a cash trade, or `Margin`.
 abbrev pub first_cash_type_of_trade : Bool → CashType
 first_cash_type_of_trade is_cash = if is_cash then cash_type.CashAccount else cash_type.Margin
 
@@ -74,13 +72,11 @@ first_cash_type_of_trade is_cash = if is_cash then cash_type.CashAccount else ca
 abbrev pub cash_text_part_with_quantity : ℕ → Text
 cash_text_part_with_quantity qty = 32 ∷ decimal qty ++ codes " shares of "
 
--- The cash text (CM_NAME) of the trade `t`: the name of its type, a space, its quantity, the text
--- " shares of " and `security`, the name of its security.
+-- The cash text (CM_NAME) of `t`: its type's name, quantity, " shares of ", its security's name.
 abbrev pub cash_text_of_trade : TradeRow → Text → Text
 cash_text_of_trade t security = cash_row_name_from_parts (codes " shares of ") t.kind t.qty security
 
--- The CASH_MOVE row of the completed trade, with the next id and with the stamp and the settlement
--- amount of the figures `completed`, or none if the trade is a margin trade.
+-- The CASH_MOVE row of the completed trade, with the next id, or none for a margin trade.
 abbrev pub cash_row_of_result : ResultPlanFacts → Completed → Option tables.CashRow
 cash_row_of_result found completed =
     if found.trade.is_cash
@@ -94,8 +90,7 @@ cash_row_of_result found completed =
     })
     else None
 
--- The row changes of the cash row `row`: it is added, and the balance of `account` is set to
--- `balance` cents.
+-- The cash row `row` is added, and the balance of `account` is set to `balance` cents.
 abbrev pub row_changes_of_cash_row : ℕ → ℤ → CashRow → List Change
 row_changes_of_cash_row account balance row = change.AddMove row ∷ change.SetBalance account balance ∷ []
 
@@ -106,28 +101,24 @@ row_changes_of_completed_trade trade price completed =
     change.CompleteTrade trade completed.stamp price completed.commission completed.tax
     ∷ change.AddHistory (record { trade = trade; status = status.Completed; stamp = completed.stamp }) ∷ []
 
--- The row change that sets the totals of the account's broker: one more completed trade, and
--- `commissions`, the broker's new commission total in cents.
-abbrev pub row_change_of_broker_totals : ResultPlanFacts → ℕ → Change
-row_change_of_broker_totals found commissions = change.SetBrokerTotals found.parties.account.account.broker (pos (found.parties.broker.trades + 1)) commissions
+-- The row change that sets the totals of the account's broker to those after the trade.
+abbrev pub row_change_of_broker_totals : ResultPlanFacts → ResultFigures → Change
+row_change_of_broker_totals found outcome = change.SetBrokerTotals found.parties.account.account.broker outcome.trades outcome.commissions
 
--- The row change that adds the SETTLEMENT row of the trade `t`: its settlement text, and the due
--- day and the settlement amount of the figures `completed`.
+-- The change that adds the SETTLEMENT row of `t`: text, due day and settlement amount.
 abbrev pub row_change_adding_settlement : TradeRow → Completed → Change
 row_change_adding_settlement t completed =
     change.AddSettlement (record { trade = t.id; cash_type = first_cash_type_of_trade t.is_cash; due_day = completed.due_day; amount = completed.amount })
 
--- The row changes of the account's summary, of the broker's totals and of the settlement, in this
--- sequence.
+-- The row changes of the account's summary, the broker's totals and the settlement, in this order.
 abbrev pub summary_broker_settlement_changes : ResultPlanFacts → ResultFigures → List Change
 summary_broker_settlement_changes found outcome =
-    row_change_of_summary (quantity_in_summary found) found.trade outcome.summary ∷ row_change_of_broker_totals found outcome.commissions
+    row_change_of_summary (quantity_in_summary found) found.trade outcome.summary ∷ row_change_of_broker_totals found outcome
     ∷ row_change_adding_settlement found.trade outcome.completed ∷ []
 
--- The row changes that complete the trade of `found` at `price` cents a share, in this sequence: of
--- the trade itself, of the lots that it closes or reduces, of the lot that it opens, if any, of the
--- summary, the broker's totals and the settlement, of its cash row and the account's balance if
--- `cash` is a row, and of the last stamp.
+-- The row changes that complete the trade of `found` at `price` cents a share, in this order: of
+-- the trade, of the lots that it closes or reduces, of the lot that it opens, of summary, broker
+-- and settlement, of cash row and balance if `cash` is a row, and of the last stamp.
 abbrev pub row_changes_of_result : ResultPlanFacts → ℕ → ClosedLots → ResultFigures → Option CashRow → List Change
 row_changes_of_result found price closed outcome cash =
     row_changes_of_completed_trade found.trade.id price outcome.completed
@@ -138,16 +129,14 @@ row_changes_of_result found price closed outcome cash =
     ++ change.SetLastStamp outcome.completed.stamp ∷ []
 
 -- `changes` are the row changes that complete the trade of `found` at `price` cents a share with
--- the lots of `closed` and the figures `outcome`. For a cash trade they add a cash row and set the
--- account's balance; for a margin trade they do neither.
+-- `closed` and `outcome`; only for a cash trade they add a cash row and set the balance.
 pub record AreResultChanges (found : ResultPlanFacts) (price : ℕ) (closed : ClosedLots) (outcome : ResultFigures) (changes : List Change) : Type 0 where
   pub cash : Option CashRow
   pub moved : option_map abstract_cash_row cash ≡ cash_row_of_result found outcome.completed
   pub changed : changes ≡ row_changes_of_result found price closed outcome cash
 
--- The source may return the lots `ls` of a position (`given`), from the end that the trade of
--- `found` closes first; this trade opened none of them; and their quantities sum to the shares that
--- the account holds before the trade (`shares_held_before_trade`).
+-- The source may return the lots `ls` of a position (`given`) from the end that the trade closes
+-- first; the trade opened none of them; they sum to `shares_held_before_trade`.
 abbrev pub AreLotsBeforeTrade : (List Lot → Type 0) → ResultPlanFacts → List Lot → Type 0
 AreLotsBeforeTrade given found ls =
     YieldsPosition given found.trade.is_lifo ls × AreOpenedByOtherTrades found.trade.id ls × (shares_held_before_trade found ≡ lot_quantity_sum ls)
@@ -156,12 +145,15 @@ AreLotsBeforeTrade given found ls =
 abbrev pub ClosesNoHeldShares : ResultPlanFacts → Type 0
 ClosesNoHeldShares found = is_trade_closing_lots (side_of_trade_type found.trade.kind) (shares_held_before_trade found) ≡ false
 
--- `plan` completes the trade of `found` at `price` cents a share and at the stamp of the command.
--- `given` is true of each list of lots that the source may return, `last` is the last stamp, and
--- `now` the clock reading. The result passes all its checks, and the row changes and the reply
--- follow from `closed`: the lots that the trade closes, reduces or opens, and the values of the
--- closed shares. The clause `closes` is vacuous if no lots of the source match the summary
--- (`AreLotsBeforeTrade`).
+-- The number of completed trades in the row of the account's broker is below 0 or above 10^12.
+abbrev pub HasBrokerCountOutOfRange : ResultPlanFacts → Type 0
+HasBrokerCountOutOfRange found = is_trade_count found.parties.broker.trades ≡ false
+
+-- `plan` completes the trade of `found` at `price` cents a share and at the command's stamp.
+-- `given` is true of the lots that the source may return, `last` is the last stamp, `now` the clock
+-- reading. The result passes all its checks, and changes and reply follow from `closed`: the lots
+-- that the trade closes, reduces or opens, and the closed values. `closes` is vacuous if no lots of
+-- the source match the summary (`AreLotsBeforeTrade`).
 pub record IsResultPlan (found : ResultPlanFacts) (price : ℕ) (given : List Lot → Type 0) (last : Option ℕ) (now : ℕ) (plan : Plan) : Type 0 where
   pub stamp : ℕ
   pub closed : ClosedLots
@@ -176,23 +168,20 @@ abbrev pub CompletesExistingTrade : Option ResultPlanFacts → ℕ → (List Lot
 CompletesExistingTrade None price given last now plan = ⊥
 CompletesExistingTrade (Some found) price given last now plan = IsResultPlan found price given last now plan
 
--- `refusal` is the first one that applies to the result of the existing trade of `found` at `price`
--- cents a share. The clause `early` is vacuous if no check before the lots are read fails, and the
--- clause `late` if no lots of the source match the summary (`AreLotsBeforeTrade`). `last` is the
--- last stamp, and `now` the clock reading.
+-- `refusal` is the first of the result of the trade of `found` at `price` cents a share. `early` is
+-- vacuous if no check before the lots are read fails, `late` if no lots of the source match the
+-- summary (`AreLotsBeforeTrade`). `last` is the last stamp, `now` the clock reading.
 pub record IsResultRefusalOfExistingTrade (found : ResultPlanFacts) (price : ℕ) (given : List Lot → Type 0) (last : Option ℕ) (now : ℕ)
     (refusal : Refusal) : Type 0 where
   -- If a check before the lots are read fails, its refusal is `refusal`, whatever the lots are.
   pub early : IfSome (first_refusal (checks_before_reading_lots found)) (λ cause. refusal ≡ cause)
-  -- `refusal` equals that of the first check that fails, with the values of those shares of the
-  -- lots that the trade would close.
+  -- The refusal of the first check that fails, with the values of the shares that it would close.
   pub late : (ls : List Lot) (stamp : ℕ) → AreLotsBeforeTrade given found ls
       → first_refusal
       (result_checks found price (closing_values_of_deal (deal_of_trade_row found.trade price stamp) (shares_of_lots ls)) (stamp_after last now))
       ≡ Some refusal
 
--- `refusal` is the refusal of a result: `NoTrade` if there is no such trade, and otherwise the
--- first one that applies (`IsResultRefusalOfExistingTrade`).
+-- The refusal of a result: `NoTrade`, or the first that applies to the existing trade.
 abbrev pub IsResultRefusal : Option ResultPlanFacts → ℕ → (List Lot → Type 0) → Option ℕ → ℕ → Refusal → Type 0
 IsResultRefusal None price given last now refusal = refusal ≡ NoTrade
 IsResultRefusal (Some found) price given last now refusal = IsResultRefusalOfExistingTrade found price given last now refusal
@@ -201,10 +190,9 @@ IsResultRefusal (Some found) price given last now refusal = IsResultRefusalOfExi
 abbrev pub stamp_or_clock_reading : Option ℕ → ℕ → ℕ
 stamp_or_clock_reading stamp now = unwrap_or stamp now
 
--- From `before` to `after`, the number of lots requested from the source grew by at most one more
--- than the number of lots that the trade closes or reduces if it is completed at `price` cents a
--- share and at `stamp`, and not at all if there is no such trade. For an existing trade it is
--- vacuous if no lots of the source match the summary (`AreLotsBeforeTrade`).
+-- From `before` to `after`, the number of requested lots grew by at most one more than the trade
+-- closes or reduces if it is completed at `price` cents a share and at `stamp`; not at all without
+-- a trade. Vacuous if no lots of the source match its summary (`AreLotsBeforeTrade`).
 abbrev pub ResultReadsAtMostOneLotMore : Option ResultPlanFacts → ℕ → ℕ → (List Lot → Type 0) → (before after : ℕ) → Type 0
 ResultReadsAtMostOneLotMore None price stamp given before after = after ≤ before
 ResultReadsAtMostOneLotMore (Some found) price stamp given before after =

@@ -53,7 +53,7 @@ fn holding_change(touch: &Touch) -> Change
     }
 }
 
-fn history_change(trade: Id, touch: &Touch) -> Change
+fn lot_history_change(trade: Id, touch: &Touch) -> Change
     ensures { result ≡ spec.row_change_adding_lot_history trade touch.now }
 {
     Change::AddLotChange(LotChange {
@@ -68,7 +68,7 @@ fn append_touch(trade: Id, touch: &Touch, changes: &mut Vec<Change>) -> Result<(
     ensures changes { OnOk result (changes.new.items ≡ changes.old.items ++ spec.row_changes_of_touched_lot trade touch.now) }
 {
     changes.push(holding_change(touch))?;
-    changes.push(history_change(trade, touch))?;
+    changes.push(lot_history_change(trade, touch))?;
     Ok(())
 }
 
@@ -141,13 +141,13 @@ fn first_cash_type(is_cash: bool) -> CashType
     }
 }
 
-fn totals_change(found: &ResultPlanFacts, commissions: Amount) -> Change
-    ensures { result ≡ spec.row_change_of_broker_totals found.now commissions }
+fn totals_change(found: &ResultPlanFacts, outcome: &ResultFigures) -> Change
+    ensures { result ≡ spec.row_change_of_broker_totals found.now outcome.now }
 {
     Change::SetBrokerTotals {
         broker: found.parties.account.account.broker,
-        trades: found.parties.broker.trades.get() as i64 + 1,
-        commissions,
+        trades: outcome.trades,
+        commissions: outcome.commissions,
     }
 }
 
@@ -162,7 +162,8 @@ fn settling_change(trade: &TradeRow, completed: &Completed) -> Change
     })
 }
 
-fn append_sums(
+// Appends the changes of the summary, of the broker's totals and of the settlement.
+fn append_sums_with_settlement(
     found: &ResultPlanFacts,
     outcome: &ResultFigures,
     changes: &mut Vec<Change>,
@@ -171,7 +172,7 @@ fn append_sums(
 {
     let summary = summary_change(found, outcome)?;
     changes.push(summary)?;
-    changes.push(totals_change(found, outcome.commissions))?;
+    changes.push(totals_change(found, outcome))?;
     changes.push(settling_change(&found.trade, &outcome.completed))?;
     Ok(())
 }
@@ -182,7 +183,7 @@ fn append_qty(name: &mut String, qty: Qty) -> Result<(), AllocError>
     write!(name, " {} shares of ", qty.get())
 }
 
-// For example `Limit-Buy 100 shares of Acme`. Text updates (`toggle_text`) and the audit
+// For example `Limit-Buy 100 shares of Acme`. Text updates (`toggle_cash_text`) and the audit
 // (`text_of_trade`) rely on the words.
 fn trade_cash_text(alloc: Global, trade: &TradeRow, security: &Name) -> Result<String, AllocError>
     ensures { IfOk result (λ name. string_bytes name ≡ spec.cash_text_of_trade trade.now security.now) }
@@ -233,7 +234,7 @@ fn append_cash(
     Ok(())
 }
 
-fn row_changes(
+fn changes_with_cash_row(
     alloc: Global,
     found: &ResultPlanFacts,
     price: Price,
@@ -249,7 +250,7 @@ fn row_changes(
     append_trade(trade.id, price, completed, &mut changes)?;
     append_touches(trade.id, &closed.touched, &mut changes)?;
     append_opened(trade, closed.opened, &mut changes)?;
-    append_sums(found, outcome, &mut changes)?;
+    append_sums_with_settlement(found, outcome, &mut changes)?;
     append_cash(trade.account, completed, cash, &mut changes)?;
     changes.push(Change::SetLastStamp(completed.stamp))?;
     Ok(changes)
@@ -265,6 +266,6 @@ pub(crate) fn result_changes(
     ensures changes { IfOk result (λ changes. AreResultChanges found.now price closed.now outcome.now changes.items) }
 {
     let cash = result_cash_row(alloc, found, &outcome.completed)?;
-    let changes = row_changes(alloc, found, price, closed, outcome, cash)?;
+    let changes = changes_with_cash_row(alloc, found, price, closed, outcome, cash)?;
     Ok(changes)
 }

@@ -1,3 +1,5 @@
+//! The estimate of an order, and the tax on a realised gain, which a result has too.
+
 ghost use Rattle.std.specs.Prelude.{◌≡◌, ◌-ℤ◌, ℕ, Bool, List, drop, false, IfOk, IfErr, pos};
 ghost use Rattle.brk_model.specs.Base.{Base, completed_trades};
 ghost use Rattle.brk_model.specs.Commands.{Order};

@@ -1,3 +1,5 @@
+//! The plan of an order, and its estimate as a reply.
+
 ghost use Rattle.std.specs.Prelude.{◌≡◌, ◌⊎◌, ◌++◌, ◌∷◌, [], ℕ, List, drop, IfOk, IfErr, OnErr, MatchResult, MatchOption, Some, None, false, string_bytes};
 ghost use Rattle.brk_lots.specs.declared.lot.Lot.{Lot};
 ghost use Rattle.brk_lots.specs.Against.{is_trade_closing_lots};
@@ -74,6 +76,8 @@ fn bid_price_of_order(order: &Order, last: Price) -> Price
     order.order_type.price().unwrap_or(last)
 }
 
+// Returns the terms of an order that passes the checks that an estimate makes too, or their first
+// refusal.
 fn checked_placement(order: &Order, found: &OrderPlanFacts) -> Result<Placement, Refusal>
     ensures { MatchResult result
         (IsCheckedPlacement order.now found.now)
@@ -247,7 +251,7 @@ fn new_request_row(
     }))
 }
 
-fn trade_changes(
+fn new_trade_changes(
     alloc: Global,
     row: TradeRow,
     request: Option<RequestRow>,
@@ -284,7 +288,7 @@ fn order_changes(
     let terms = &placement.terms;
     let row = new_trade_row(alloc, order, terms, commission, trade, stamp)?;
     let request = new_request_row(order, placement, trade)?;
-    let changes = trade_changes(alloc, row, request)?;
+    let changes = new_trade_changes(alloc, row, request)?;
     Ok(changes)
 }
 

@@ -1,6 +1,6 @@
-//! The figures of a result for the trade that it completes.
+//! The checks of a result, before lots are read and after, and its figures.
 
-ghost use Rattle.std.specs.Prelude.{◌≡◌, ◌*◌, ◌≤◌, true, false, nat_lt, nat_abs, MatchOption, MatchResult, None, Some};
+ghost use Rattle.std.specs.Prelude.{◌≡◌, ◌*◌, ◌≤◌, ◌+ℤ◌, pos, true, false, nat_lt, nat_abs, MatchOption, MatchResult, None, Some};
 ghost use Rattle.brk_model.specs.Limits.{greatest_price, greatest_summary_quantity};
 ghost use Rattle.brk_model.specs.Tests.{first_refusal};
 ghost use Rattle.brk_trade.specs.Outcomes as spec;
@@ -8,7 +8,7 @@ ghost use Rattle.brk_trade.specs.Outcomes.{checks_before_reading_lots, checks_af
 
 use crate::result_found::ResultPlanFacts;
 use crate::settling::{
-    balance_after, checked_commissions, checked_due_day, commission_of, settled_amount,
+    balance_after_settlement, checked_commissions, checked_due_day, commission_of, settled_amount,
     tax_on_closed,
 };
 use brk_lots::{ClosedLots, signed_qty};
@@ -25,6 +25,8 @@ pub struct ResultFigures {
     /// The number of shares of the security that the account holds after the trade, negative if
     /// sold short.
     pub summary: i64,
+    /// The number of completed trades of the broker's accounts after the trade.
+    pub trades: i64,
     /// The commission total of the broker after the trade.
     pub commissions: Amount,
 }
@@ -62,7 +64,7 @@ fn checked_summary(found: &ResultPlanFacts) -> Option<i64>
     Some(after as i64)
 }
 
-pub(crate) fn checked_before_lots(found: &ResultPlanFacts) -> Result<RateAndSummary, Refusal>
+pub(crate) fn check_before_lots(found: &ResultPlanFacts) -> Result<RateAndSummary, Refusal>
     ensures { MatchResult result
         (λ known. (first_refusal (checks_before_reading_lots found.now) ≡ None) × (found.now.listed.rate ≡ Some known.rate)
         × (known.summary ≡ spec.shares_held_after_trade found.now))
@@ -81,16 +83,18 @@ pub(crate) fn checked_before_lots(found: &ResultPlanFacts) -> Result<RateAndSumm
 }
 
 // Refuses a missing stamp only after the balance and the broker's commissions.
-pub(crate) fn checked_figures(
+pub(crate) fn check_after_lots(
     found: &ResultPlanFacts,
     price: Price,
     known: &RateAndSummary,
     closed: &ClosedLots,
+    trades: i64,
     stamp: Option<Stamp>,
 ) -> Result<ResultFigures, Refusal>
     requires sold { closed.now.values.sell_value ≤ found.now.trade.qty * greatest_price }
     requires rate { found.now.listed.rate ≡ Some known.now.rate }
     requires summary { known.now.summary ≡ spec.shares_held_after_trade found.now }
+    requires trades { trades ≡ found.now.parties.broker.trades +ℤ pos 1 }
     ensures { MatchResult result
         (λ outcome. (first_refusal (checks_after_reading_lots found.now price closed.now.values stamp) ≡ None) × (stamp ≡ Some outcome.completed.stamp)
         × (outcome ≡ figures_of_result found.now price closed.now.values outcome.completed.stamp))
@@ -102,10 +106,10 @@ pub(crate) fn checked_figures(
     let commission = commission_of(&found.trade, price, known.rate);
     let tax = tax_on_closed(found, values);
     let amount = settled_amount(found, price, commission, tax);
-    let Some(balance) = balance_after(found, amount) else {
+    let Some(balance) = balance_after_settlement(found, amount) else {
         return Err(Refusal::Range(Limit::Balance));
     };
-    let Some(commissions) = checked_commissions(found.parties.broker, commission) else {
+    let Some(commissions) = checked_commissions(&found.parties.broker, commission) else {
         return Err(Refusal::Range(Limit::Broker));
     };
     let Some(stamp) = stamp else {
@@ -127,6 +131,7 @@ pub(crate) fn checked_figures(
     Ok(ResultFigures {
         completed,
         summary: known.summary,
+        trades,
         commissions,
     })
 }

@@ -9,11 +9,12 @@ ghost use Rattle.brk_money.specs.Moments as moments;
 ghost use Rattle.brk_money.specs.declared.fault.Fault.{Fault};
 ghost use Rattle.brk_trade.specs.Outcomes.{deal_of_trade_row};
 ghost use Rattle.brk_trade.specs.Results.{AreLotsBeforeTrade, ResultReadsAtMostOneLotMore, CompletesExistingTrade};
-ghost use Rattle.brk_trade.specs.Results.{IsResultRefusal, ClosesNoHeldShares, stamp_or_clock_reading};
+ghost use Rattle.brk_trade.specs.Results.{IsResultRefusal, ClosesNoHeldShares, HasBrokerCountOutOfRange, stamp_or_clock_reading};
 
 use crate::completion::result_changes;
-use crate::outcome::{checked_before_lots, checked_figures, shares_held_before_trade};
+use crate::outcome::{check_after_lots, check_before_lots, shares_held_before_trade};
 use crate::result_found::ResultPlanFacts;
+use crate::settling::trades_after;
 use brk_lots::{ClosedLots, LotSource, close_lots, is_trade_closing_lots, opening_effect};
 use brk_money::{Fault, Planned, Price, Refusal, Stamp, stamp_after};
 use brk_trade_plans::{Plan, Reply};
@@ -83,7 +84,8 @@ pub fn plan_result<L: LotSource>(
     ensures reads_no_lot { IfSome (option_map (λ f. f.now) found.entry) (λ f. ClosesNoHeldShares f → source.new ≡ source.old) }
     // At `Ok` the source counted no fault; a fault is `Memory` or that of a call of the source.
     ensures faulted { IfOk result (λ planned. L.faulted source.new ≡ L.faulted source.old) }
-    ensures fault { IfErr result (λ fault. (fault ≡ Fault.Memory) ⊎ ((before : L) × L.fails before fault source.new)) }
+    ensures fault { IfErr result (λ fault. (fault ≡ Fault.Memory) ⊎ (((before : L) × L.fails before fault source.new)
+        ⊎ ((fault ≡ Fault.Store) × IfSome (option_map (λ f. f.now) found.entry) HasBrokerCountOutOfRange))) }
     // Under the disk assumption, the lots that it did not take remain in the source.
     ensures rest { (ls : List Lot) → AreLotsOfFaithfulSource (L.reads_faithfully source.new) (L.remaining source.old) ls
         → (n : ℕ) × L.remaining source.new (drop n ls) }
@@ -91,7 +93,10 @@ pub fn plan_result<L: LotSource>(
     let Some(found) = found else {
         return Ok(Err(Refusal::NoTrade));
     };
-    let known = match checked_before_lots(found) {
+    let Some(trades) = trades_after(&found.parties.broker) else {
+        return Err(Fault::Store);
+    };
+    let known = match check_before_lots(found) {
         Ok(known) => known,
         Err(refusal) => return Ok(Err(refusal)),
     };
@@ -103,7 +108,7 @@ pub fn plan_result<L: LotSource>(
         None => now,
     };
     let closed = effect_of_trade_on_lots(alloc, source, found, price, at)?;
-    let outcome = match checked_figures(found, price, &known, &closed, moved) {
+    let outcome = match check_after_lots(found, price, &known, &closed, trades, moved) {
         Ok(outcome) => outcome,
         Err(refusal) => return Ok(Err(refusal)),
     };

@@ -1,13 +1,12 @@
 use brk_money::{Day, MoveId, Rate, TaxRate};
-use brk_ref::{AccountRow, Security, SummaryRow, Tier, TradeRow};
-use brk_trade_rows::BrokerTotals;
+use brk_ref::{AccountRow, BrokerRow, Security, SummaryRow, Tier, TradeRow};
 
 /// The account of a trade with what its customer and its broker add to a result.
 #[derive(Drop)]
 pub struct TradeParties {
     pub account: AccountRow,
-    /// The totals in the row of the account's broker.
-    pub broker: BrokerTotals,
+    /// The row of the account's broker.
+    pub broker: BrokerRow,
     /// The tier of the account's customer.
     pub tier: Tier,
     /// The sum of the tax rates that the account's customer pays, in hundred-thousandths.

@@ -1,7 +1,7 @@
 //! The arithmetic of a settlement: the cost and the proceeds of a completed trade, and the totals
 //! after it.
 
-ghost use Rattle.std.specs.Prelude.{◌≡◌, ◌+◌, ◌*◌, ◌≤◌, ◌-ℤ◌, ◌&&◌, true, false, nat_lt, nat_abs, pos, if◌then◌else◌, MatchOption};
+ghost use Rattle.std.specs.Prelude.{◌≡◌, ◌+◌, ◌*◌, ◌≤◌, ◌-ℤ◌, ◌+ℤ◌, ◌&&◌, true, false, nat_lt, nat_abs, pos, if◌then◌else◌, MatchOption};
 ghost use Rattle.brk_model.specs.Base.{is_withholding_status};
 ghost use Rattle.brk_model.specs.Derived as derived;
 ghost use Rattle.brk_model.specs.Derived.{signed_proceeds};
@@ -10,15 +10,15 @@ ghost use Rattle.brk_money.specs.Amounts as amounts;
 ghost use Rattle.brk_money.specs.Kinds.{side_of_trade_type};
 ghost use Rattle.brk_money.specs.Moments.{greatest_day};
 ghost use Rattle.brk_trade.specs.Outcomes as spec;
-ghost use Rattle.brk_trade.specs.Outcomes.{greatest_trade_value};
+ghost use Rattle.brk_trade.specs.Outcomes.{greatest_trade_value, is_trade_count};
 
 use crate::estimate::tax_on_realised_gain;
 use crate::result_found::ResultPlanFacts;
 use brk_lots::Values;
 use brk_money::{Cents, Day, Price, Rate, Side, Stamp, TaxStatus, commission};
-use brk_ref::TradeRow;
+use brk_ref::{BrokerRow, TradeRow};
 use brk_trade_plans::add_within_balance_limit;
-use brk_trade_rows::{Amount, BrokerTotals, completion_due_day};
+use brk_trade_rows::{Amount, TradeCount, completion_due_day};
 
 #[tactic(auto, using(crate::proofs::Bounds::commission_high))]
 pub(crate) fn commission_of(trade: &TradeRow, price: Price, rate: Rate) -> Amount
@@ -83,7 +83,7 @@ pub(crate) fn settled_amount(
 }
 
 // Returns the balance unchanged for a margin trade.
-pub(crate) fn balance_after(found: &ResultPlanFacts, amount: Cents) -> Option<Cents>
+pub(crate) fn balance_after_settlement(found: &ResultPlanFacts, amount: Cents) -> Option<Cents>
     ensures { MatchOption result
         (found.now.trade.is_cash && nat_lt greatest_amount (nat_abs (spec.balance_after_settlement_amount found.now amount)) ≡ true)
         (λ after. (after ≡ spec.balance_after_settlement_amount found.now amount)
@@ -95,15 +95,31 @@ pub(crate) fn balance_after(found: &ResultPlanFacts, amount: Cents) -> Option<Ce
     add_within_balance_limit(found.parties.account.balance, amount)
 }
 
-pub(crate) fn checked_commissions(broker: BrokerTotals, commission: Amount) -> Option<Amount>
+pub(crate) fn checked_commissions(broker: &BrokerRow, commission: Amount) -> Option<Amount>
     ensures { MatchOption result
-        (nat_lt greatest_amount (broker.commissions + commission) ≡ true)
-        (λ after. (after ≡ broker.commissions + commission) × (nat_lt greatest_amount (broker.commissions + commission) ≡ false)) }
+        (nat_lt greatest_amount (broker.now.commissions + commission) ≡ true)
+        (λ after. (after ≡ broker.now.commissions + commission) × (nat_lt greatest_amount (broker.now.commissions + commission) ≡ false)) }
 {
-    Amount::new(broker.commissions.get() + commission.get())
+    match broker.commissions.checked_add(commission.get()) {
+        Some(commissions) => Amount::new(commissions),
+        None => None,
+    }
 }
 
-// Returns `None` if the due day is after 9999-12-31.
+// Returns `None` if the row's number of trades is not 0 to 10^12.
+pub(crate) fn trades_after(broker: &BrokerRow) -> Option<i64>
+    ensures { MatchOption result
+        (is_trade_count broker.now.trades ≡ false)
+        (λ trades. (trades ≡ broker.now.trades +ℤ pos 1) × (is_trade_count broker.now.trades ≡ true)) }
+{
+    if broker.trades < 0 || broker.trades as u64 > TradeCount::GREATEST {
+        return None;
+    }
+    Some(broker.trades + 1)
+}
+
+// `completion_due_day`, with a clause for each outcome. Returns `None` if the due day is after
+// 9999-12-31.
 pub(crate) fn checked_due_day(rule: Option<Day>, stamp: Stamp) -> Option<Day>
     ensures { MatchOption result
         (nat_lt greatest_day (derived.due_day_of_completion_stamp rule stamp) ≡ true)

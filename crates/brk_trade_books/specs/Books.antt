@@ -12,8 +12,7 @@ use Rattle.brk_model.specs.Base.{broker_with_id_in_list, customer_with_id_in_lis
 use Rattle.brk_model.specs.Names.{TradesAreNumberedFrom}
 use Rattle.brk_model.specs.Tests.{bands_overlap}
 
--- No two elements of the list are the same by the test `same`: the test is false for each element
--- and each one before it.
+-- No two elements of the list are the same by the test `same`.
 abbrev pub HasDistinctElements : {X : Type 0} → (X → X → Bool) → List X → Type 0
 HasDistinctElements same [] = ⊤
 HasDistinctElements same (x ∷ xs) = AllByRecursion (λ y. same y x ≡ false) xs × HasDistinctElements same xs
@@ -40,8 +39,7 @@ HasOneStatusChange [] = ⊥
 HasOneStatusChange (m ∷ []) = ⊤
 HasOneStatusChange (m ∷ n ∷ marks) = ⊥
 
--- If the trade is pending, its history has exactly one status change. Vacuous for a trade of
--- another status.
+-- If the trade is pending, its history has exactly one status change. Vacuous for other trades.
 abbrev pub HasOneStatusChangeIfPending : Trade → Type 0
 HasOneStatusChangeIfPending t = has_last_status Pending t ≡ true → HasOneStatusChange t.marks
 
@@ -49,19 +47,16 @@ HasOneStatusChangeIfPending t = has_last_status Pending t ≡ true → HasOneSta
 abbrev pub IsNotCompletion : StatusChange → Type 0
 IsNotCompletion m = is_same_trade_status m.status Completed ≡ false
 
--- If the trade is submitted, no status change of its history is a completion. Vacuous for a trade
--- of another status.
+-- If the trade is submitted, its history has no completion. Vacuous for other trades.
 abbrev pub HasNoCompletionIfSubmitted : Trade → Type 0
 HasNoCompletionIfSubmitted t = has_last_status Submitted t ≡ true → AllByRecursion IsNotCompletion t.marks
 
--- The stamp of the last status change of the trade `t`, 0 if it has none, is at most the last stamp
--- `last`. False if `last` is `None`.
+-- The last status stamp of the trade `t`, or 0, is at most `last`. False if `last` is `None`.
 abbrev pub TradeStampIsAtMostLastStamp : Option ℕ → Trade → Type 0
 TradeStampIsAtMostLastStamp None t = ⊥
 TradeStampIsAtMostLastStamp (Some last) t = last_status_stamp_of_trade t ≤ last
 
--- No two trades of the list have the same stamp in their last status changes. The stamp of a trade
--- without a status change counts as 0.
+-- No two trades of the list have the same last status stamp, which is 0 without a status change.
 abbrev pub HasDistinctLastStatusStamps : List Trade → Type 0
 HasDistinctLastStatusStamps trades = HasDistinctElements (λ u t. last_status_stamp_of_trade u == last_status_stamp_of_trade t) trades
 
@@ -78,32 +73,27 @@ MovementStampIsAtMostLastStamp (Some last) m = m.stamp ≤ last
 abbrev pub HasLastStatusAtOtherStamp : ℕ → Trade → Type 0
 HasLastStatusAtOtherStamp stamp t = (last_status_stamp_of_trade t == stamp) ≡ false
 
--- No two movements of the list have the same stamp, and no movement has the stamp of the last
--- status change of a trade of `done`, which counts as 0 if the trade has no status change.
+-- The stamps of the movements differ from one another and from the last status stamps of `done`.
 abbrev pub HasDistinctMovementStamps : List Trade → List Movement → Type 0
 HasDistinctMovementStamps done [] = ⊤
 HasDistinctMovementStamps done (m ∷ ms) =
     AllByRecursion (HasLastStatusAtOtherStamp m.stamp) done × AllByRecursion (λ n. (n.stamp == m.stamp) ≡ false) ms × HasDistinctMovementStamps done ms
 
--- The part of the books invariant that concerns movements. The account of each of `all_movements`
--- is one of `all_accounts`. The stamps of the movements are at most the last stamp `last`, and
--- differ from one another and from the stamps of the last status changes of the trades `done`. If
--- `last` is `None`, there are no movements.
+-- The part of the books invariant on movements: accounts exist; stamps are at most `last`,
+-- distinct, and other than the last stamps of the trades `done`. Without `last` there are none.
 pub record MovementBooksInvariant (all_accounts : List Account) (last : Option ℕ) (done : List Trade) (all_movements : List Movement) : Type 0 where
   -- The account of each movement exists.
   pub holders : AllByRecursion (MovementAccountExists all_accounts) all_movements
   -- No movement has a stamp after the last stamp, so the cash row of the next command is the last.
   pub early : AllByRecursion (MovementStampIsAtMostLastStamp last) all_movements
-  -- No movement shares its stamp with another movement or a completion, so the order of the cash
-  -- rows is unique.
+  -- No movement shares its stamp with another one or a completion: cash rows have one order.
   pub apart : HasDistinctMovementStamps done all_movements
 
 -- The lower bound of the band is at most its upper bound.
 abbrev pub HasOrderedBounds : Band → Type 0
 HasOrderedBounds b = nat_le b.from_qty b.to_qty ≡ true
 
--- No two bands of the list overlap (`bands_overlap`): of two bands with the same tier, trade type
--- and exchange, the lower bound of one exceeds the upper bound of the other.
+-- No two bands of the list overlap (`bands_overlap`).
 abbrev pub HasDisjointBands : List Band → Type 0
 HasDisjointBands [] = ⊤
 HasDisjointBands (b ∷ bs) = AllByRecursion (λ c. bands_overlap b c ≡ false) bs × HasDisjointBands bs
@@ -124,9 +114,7 @@ TradeAccountExists accounts t = is_some (account_with_id_in_list accounts t.acco
 abbrev pub TradeSecurityExists : List Security → Trade → Type 0
 TradeSecurityExists securities t = is_some (security_with_symbol_in_list securities t.symbol) ≡ true
 
--- The part of the books invariant that concerns accounts and permissions: the broker and the
--- customer of each account exist, no two accounts have the same id, and no two permissions have
--- both the same account and the same tax id.
+-- The part of the books invariant that concerns accounts and permissions.
 pub record AccountBooksInvariant (all_brokers : List Broker) (all_customers : List Customer) (all_accounts : List Account)
     (all_permissions : List Permission) : Type 0 where
   -- The broker and the customer of each account exist.
@@ -134,27 +122,21 @@ pub record AccountBooksInvariant (all_brokers : List Broker) (all_customers : Li
   pub customers : AllByRecursion (AccountCustomerExists all_customers) all_accounts
   -- No two accounts have the same id, so each summary belongs to one account.
   pub owners : HasDistinctAccountIds all_accounts
-  -- An account has at most one permission for a tax id, so no other permission of the account
-  -- decides on an executor with this tax id.
+  -- An account has at most one permission for a tax id, which alone decides on its executor.
   pub permissions : HasDistinctPermissions all_permissions
 
--- The part of the books invariant that concerns securities and bands: no two securities have the
--- same symbol, volumes are within the limit, the lower bound of each band is at most its upper
--- bound, and no two bands overlap (`bands_overlap`).
+-- The part of the books invariant that concerns securities and bands.
 pub record SecurityBooksInvariant (all_securities : List Security) (all_bands : List Band) : Type 0 where
   -- No two securities have the same symbol, so a tick changes at most one row of LAST_TRADE.
   pub symbols : HasDistinctSymbols all_securities
-  -- The volume of each security is within the limit, so a feed can exceed the limit only for the
-  -- symbols of its ticks.
+  -- The volume of each security is within the limit: a feed can exceed it only for its symbols.
   pub volumes : AllByRecursion HasVolumeWithinLimit all_securities
   -- The lower bound of each band is at most its upper bound.
   pub bands : AllByRecursion HasOrderedBounds all_bands
   -- A quantity is in at most one band of a tier, a type and an exchange.
   pub apart : HasDisjointBands all_bands
 
--- The part of the books invariant that concerns trades: their accounts and securities exist, their
--- ids are 1, 2, 3 and so on, in the sequence of the list, a pending trade has exactly one status
--- change, and a submitted trade has no completion.
+-- The part of the books invariant that concerns trades.
 pub record TradeBooksInvariant (all_accounts : List Account) (all_securities : List Security) (all_trades : List Trade) : Type 0 where
   -- The account and the security of each trade exist.
   pub accounts : AllByRecursion (TradeAccountExists all_accounts) all_trades
@@ -166,12 +148,9 @@ pub record TradeBooksInvariant (all_accounts : List Account) (all_securities : L
   -- A submitted trade was never completed, so its completion is new in its history.
   pub completions : AllByRecursion HasNoCompletionIfSubmitted all_trades
 
--- The part of the books invariant that concerns stamps. The stamps of the last status changes of
--- the completed trades `done` are distinct and at most the last stamp `last`, and `last` is at most
--- the greatest stamp. If `last` is `None`, there are no completed trades.
+-- The part of the books invariant on stamps. If `last` is `None`, no trade is completed (`done`).
 pub record CompletionBooksInvariant (last : Option ℕ) (done : List Trade) : Type 0 where
-  -- No trade was completed after the last stamp, so the next completion is the last of its
-  -- position.
+  -- No trade was completed after the last stamp: the next completion is the last of its position.
   pub early : AllByRecursion (TradeStampIsAtMostLastStamp last) done
   -- No two trades were completed at the same stamp, so the order of a position's lots is unique.
   pub moments : HasDistinctLastStatusStamps done
@@ -180,11 +159,10 @@ pub record CompletionBooksInvariant (last : Option ℕ) (done : List Trade) : Ty
 
 -- The base satisfies the books invariant: the records that accounts, trades and movements refer to
 -- exist; account ids, permissions, symbols, and the stamps of completions and movements are unique;
--- volumes are within their limit; the lower bound of each band is at most its upper bound, and no
--- two bands overlap; trades are numbered from 1; a pending trade has exactly one status change, and
--- a submitted trade has no completion; no completion and no movement has a stamp after the last
--- stamp, and there are none if no last stamp is set; the last stamp, if it is set, is at most the
--- greatest stamp. Each part concerns only the fields of the base that it names.
+-- volumes are within their limit; bands have ordered bounds and do not overlap; trades are numbered
+-- from 1; a pending trade has exactly one status change, a submitted trade no completion; no
+-- completion and no movement is after the last stamp, and without one there are none; the last
+-- stamp is at most the greatest stamp. Each part names the fields of the base that it concerns.
 pub record BooksInvariant (base : Base) : Type 0 where
   pub parties : AccountBooksInvariant base.brokers base.customers base.accounts base.permissions
   pub open parties use *

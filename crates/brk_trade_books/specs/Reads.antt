@@ -25,14 +25,12 @@ contains_permission t account tax_id = is_some (find (λ r. (r.account == accoun
 abbrev pub contains_charge : Tables → TradeType → ℕ → Bool
 contains_charge t kind tier = is_some (find (λ r. is_same_trade_type r.kind kind && (r.tier == tier)) t.charges)
 
--- The commission bands of the customer tier `tier`, the trade type `kind` and the exchange
--- `exchange`, in the order of the table.
+-- The bands of the tier `tier`, the type `kind` and the exchange `exchange`, in the table's order.
 abbrev pub commission_bands_of_tier_type_and_exchange : Tables → ℕ → TradeType → Text → List Band
 commission_bands_of_tier_type_and_exchange t tier kind exchange =
     filter (λ r. (r.tier == tier) && is_same_trade_type r.kind kind && bytes_eq r.exchange exchange) t.bands
 
--- True if a band in the tables with the tier, type and exchange of the band `b` overlaps `b`: the
--- lower bound of each is at most the upper bound of the other (`bands_overlap`).
+-- True if a band in the tables overlaps the band `b` (`bands_overlap`).
 abbrev pub overlaps_some_band : Tables → Band → Bool
 overlaps_some_band t b = list_any (bands_overlap b) (commission_bands_of_tier_type_and_exchange t b.tier b.kind b.exchange)
 
@@ -44,8 +42,7 @@ tax_rate_with_id t id = tax_rate_with_id_in_list t.tax_rates id
 abbrev pub contains_tax_rate : Tables → ℕ → Bool
 contains_tax_rate t id = is_some (tax_rate_with_id t id)
 
--- The rate in the first row of the tax rate with the id `tax`, in hundred-thousandths, or `None` if
--- there is no such tax rate.
+-- The rate of the first tax rate with the id `tax`, in hundred-thousandths, or `None`.
 abbrev pub rate_of_tax_rate_with_id : Tables → ℕ → Option ℕ
 rate_of_tax_rate_with_id t tax = option_map (λ r. r.rate) (tax_rate_with_id t tax)
 
@@ -53,7 +50,6 @@ rate_of_tax_rate_with_id t tax = option_map (λ r. r.rate) (tax_rate_with_id t t
 abbrev pub contains_customer_tax : Tables → ℕ → ℕ → Bool
 contains_customer_tax t customer tax = is_some (find (λ r. (r.customer == customer) && (r.tax == tax)) t.customer_taxes)
 
--- The sum of the rates of the taxes that the customer pays, in hundred-thousandths. A tax rate that
--- does not exist counts as 0.
+-- The sum of the customer's tax rates, in hundred-thousandths; a missing tax rate counts as 0.
 abbrev pub customer_tax_rate_sum : Tables → ℕ → ℕ
 customer_tax_rate_sum t customer = sum_by (λ r. unwrap_or (rate_of_tax_rate_with_id t r.tax) 0) (filter (λ r. r.customer == customer) t.customer_taxes)

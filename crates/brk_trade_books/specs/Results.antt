@@ -21,9 +21,8 @@ use Rattle.brk_trade_books.specs.Trading.{history_row_of_status}
 pub record ResultRows : Type 0 where
   -- The row of the trade after its completion.
   pub trade : TradeRow
-  -- The changes of the lots that the trade closes or reduces, in the sequence of the lots' first
-  -- shares, reversed if the trade closes the newest lots first, and the lot that the trade opens,
-  -- if it opens one.
+  -- The changes of the lots that the trade closes or reduces, in the sequence of their first
+  -- shares, reversed if it closes the newest first; and the lot that the trade opens, if any.
   pub touched : List Touch
   pub opened : List Lot
   -- The quantity of the position's summary before the result and after it, 0 if it has no row.
@@ -41,22 +40,19 @@ pub record ResultRows : Type 0 where
 
 -- ---- the trade
 
--- The tables with the trade of the row `r` completed at the stamp, price, commission and tax of
--- `r`, and with its completion added to TRADE_HISTORY. A missing price counts as 0. If the tables
--- have no such trade, only the row of TRADE_HISTORY is added.
+-- The tables with the trade of the row `r` completed at the values of `r` (a missing price counts
+-- as 0), if it exists, and with its completion added to TRADE_HISTORY in any case.
 abbrev pub tables_with_trade_completed_and_history : TradeRow → Tables → Tables
 tables_with_trade_completed_and_history r t =
     tables_with_history_row (history_row_of_status r.id Completed r.stamp) (tables_with_trade_completed r.id r.stamp (unwrap_or r.price 0) r.commission r.tax t)
 
 -- ---- its lots
 
--- The row of HOLDING_HISTORY of the lot change `touch`, which the trade `trade` makes: the lot, the
--- trade, and the lot's quantity before and after.
+-- The row of HOLDING_HISTORY of the lot change `touch`, which the trade `trade` makes.
 abbrev pub holding_history_row_of_touch : ℕ → Touch → HoldingHistoryRow
 holding_history_row_of_touch trade touch = record { lot = touch.lot; trade = trade; before = touch.before; after = touch.after }
 
--- The tables with the quantity of the touched lot in HOLDING set to `touch.after`, or without the
--- lot if `touch.after` is 0. They are unchanged if there is no such lot.
+-- The tables with the lot in HOLDING, if it exists, set to `touch.after`, or deleted if this is 0.
 abbrev pub tables_with_touched_holding : Touch → Tables → Tables
 tables_with_touched_holding touch t = if is_zero touch.after then tables_without_lot touch.lot t else tables_with_lot_quantity touch.lot touch.after t
 
@@ -70,8 +66,7 @@ tables_with_lots_touched trade touched t =
 abbrev pub holding_row_of_lot : TradeRow → Lot → HoldingRow
 holding_row_of_lot r lot = record { trade = lot.trade; account = r.account; symbol = r.symbol; stamp = lot.stamp; price = lot.price; qty = lot.qty }
 
--- The row of HOLDING_HISTORY that records the opening of the lot `lot`: from 0 to its quantity, by
--- the trade that opened it.
+-- The row of HOLDING_HISTORY of the opening of the lot `lot`: from 0 to its quantity, by its trade.
 abbrev pub opening_holding_history_row : Lot → HoldingHistoryRow
 opening_holding_history_row lot = record { lot = lot.trade; trade = lot.trade; before = pos 0; after = lot.qty }
 
@@ -83,10 +78,9 @@ tables_with_lots_opened r opened t =
 
 -- ---- its summary, which has no row if it is 0
 
--- The tables with the holding summary of the account and the symbol of `row` changed; `before` and
--- `after` are its quantities. Its row is deleted if `after` is 0; `row` is added if only `before`
--- is 0; otherwise the quantity of its row is set to that of `row`. A row that does not exist is
--- neither deleted nor set.
+-- The tables with the holding summary of the account and the symbol of `row` changed from `before`
+-- to `after`: its row is deleted if `after` is 0, added if only `before` is 0, and otherwise set to
+-- the quantity of `row`. A row that does not exist is neither deleted nor set.
 abbrev pub tables_with_summary_changed : (before after : ℤ) → SummaryRow → Tables → Tables
 tables_with_summary_changed before after row t =
     if is_zero after then tables_without_summary row.account row.symbol t
@@ -94,17 +88,15 @@ tables_with_summary_changed before after row t =
 
 -- ---- its cash
 
--- If `is_cash` is true, the tables with the cash row `cash` added and the balance of `account` set
--- to `balance`, in cents; otherwise the tables unchanged.
+-- The tables, with `cash` added and the balance of `account` set to `balance` cents if `is_cash`.
 abbrev pub tables_with_cash_row_if_cash_trade : (is_cash : Bool) → CashRow → (account : ℕ) → (balance : ℤ) → Tables → Tables
 tables_with_cash_row_if_cash_trade is_cash cash account balance t = if is_cash then tables_with_balance account balance (tables_with_cash_row cash t) else t
 
 -- ---- the whole result
 
--- The tables after a result with the rows and figures `c`: the trade completed and its history row
--- added; its lots closed, reduced and opened, with their rows of HOLDING_HISTORY; the summary
--- added, set or deleted; the broker totals set; the settlement added; and, for a cash trade, the
--- cash row added and the balance set.
+-- The tables after a result with the rows and figures `c`: trade completed, with its history row;
+-- lots closed, reduced and opened, with their rows of HOLDING_HISTORY; summary changed; broker
+-- totals set; settlement added; and, for a cash trade, cash row added and balance set.
 abbrev pub tables_after_result : ResultRows → Tables → Tables
 tables_after_result c t =
     tables_with_cash_row_if_cash_trade c.trade.is_cash c.cash c.trade.account c.balance
@@ -130,8 +122,7 @@ result_rows_of_deal base after d t = record {
   commissions = commission_total_of_broker base.accounts after (broker_id_of_account base t.account);
 }
 
--- The rows and figures of the result of the trade `t` at the stamp `stamp` and the price `price`,
--- in cents, from the base before the result.
+-- The rows and figures of the result of `t` at `stamp` and `price` cents, from the base before it.
 abbrev pub result_rows_of_trade : Base → ℕ → ℕ → Trade → ResultRows
 result_rows_of_trade base stamp price t =
     result_rows_of_deal base (completed_trades (base_after_result base stamp price t))

@@ -32,25 +32,22 @@ pub record TradeRowHasTax (t : Tables) (id tax : ℕ) : Type 0 where
   pub found : trade_row_with_id t id ≡ Some row
   pub taxed : row.tax ≡ tax
 
--- The tax, in cents, of the trade `t` if it is completed at the clock reading `now` and the price
--- `price`, in cents. It is the tax on the gain of exactly the shares that the trade then closes, at
--- the rates of the base; 0 if there is no gain or the account is not taxable.
+-- The tax, in cents, of `t` if completed at `now` for `price` cents: on the gain of exactly the
+-- shares that it closes, at the rates of the base; 0 without a gain or without a taxable account.
 abbrev pub tax_at_completion : Base → ℕ → ℕ → Trade → ℕ
 tax_at_completion base now price t =
     tax_on_deal base t.account (deal_of_result (stamp_of_next_command base now) price t)
     (shares_of_position (completed_trades base) t.account t.symbol)
 
--- If the call is an accepted result at the clock reading `now`, its trade exists in `base`, and the
--- row of this trade in the tables `later` has the tax of its completion from `base`. Vacuous for
--- other calls and for other outcomes.
+-- If the call is an accepted result at `now`, its trade exists in `base`, and its row in the tables
+-- `later` has the tax of its completion from `base`. Vacuous for other calls and outcomes.
 abbrev pub RecordsTaxOfResult : Tables → Base → ℕ → Call → Outcome → Type 0
 RecordsTaxOfResult later base now (Do (CompleteTrade id price) key) (Did (Done reply)) =
     (t : Trade) × (trade_with_id base id ≡ Some t) × TradeRowHasTax later id (tax_at_completion base now price t)
 RecordsTaxOfResult later base now call outcome = ⊤
 
--- Each outcome is one that its call can have in the base that the calls before it reach from
--- `base`. For each accepted result, the row of its trade in the tables `later` has the tax of its
--- completion. Calls and outcomes after the end of the shorter list are not checked.
+-- Each outcome is possible for its call in the base that the earlier calls reach from `base`, and
+-- `later` has the tax of each accepted result. Surplus calls or outcomes are not checked.
 abbrev pub RecordsTaxesOfResults : Tables → Base → List (ℕ × Call) → List Outcome → Type 0
 RecordsTaxesOfResults later base (call ∷ calls) (outcome ∷ outcomes) =
     RecordsTaxOfResult later base call.0 call.1 outcome
@@ -71,9 +68,8 @@ LotCostsMatchDeals base = (account : ℕ) (symbol : Text)
     ≡ realised_gain_sum (deals_of_position (completed_trades base) account symbol) []
     +ℤ purchase_value_minus_sale_value (deals_of_position (completed_trades base) account symbol)
 
--- The calls can have these outcomes and lead from `base` to `after`. The base `after` satisfies the
--- books invariant, the sums in its tables match their rows, the row of the trade of each accepted
--- result has the tax of its completion, and the lots and their cost follow from the trades.
+-- The calls can have these outcomes and lead from `base` to `after`, which satisfies the books
+-- invariant; sums match their rows, results have their taxes, lots and costs follow from trades.
 pub record IsRunWithSumsAndTaxes (base : Base) (calls : List (ℕ × Call)) (outcomes : List Outcome) (after : Base) : Type 0 where
   pub run : Run base calls outcomes after
   pub order : BooksInvariant after

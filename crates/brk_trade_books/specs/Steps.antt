@@ -11,8 +11,7 @@ use Rattle.brk_model.specs.Step.{base_after_accepted_command, security_of_listin
 use Rattle.brk_trade_rows.specs.Changes.{tables_with_last_stamp, tables_with_last_trade, tables_with_security}
 use Rattle.brk_trade_books.specs.Books.{BooksInvariant}
 
--- The base after the command, as if `base` accepted the command at the clock reading `now`, whether
--- or not it does.
+-- The base after the command, as if `base` accepted it at the clock reading `now`.
 abbrev pub base_after_command : Base → ℕ → Command → Base
 base_after_command base now command = base_after_accepted_command base (stamp_of_next_command base now) command
 
@@ -22,9 +21,8 @@ abbrev pub PreservesBooksInvariant : Base → ℕ → Command → Type 0
 PreservesBooksInvariant base now command =
     BooksInvariant base → refusal_of_command base now command ≡ None → BooksInvariant (base_after_command base now command)
 
--- If the base satisfies the books invariant and the command is accepted at the clock reading `now`,
--- the tables after the command are the tables before it with `change` applied and the command's
--- stamp set as the last stamp. Vacuous otherwise.
+-- If the base satisfies the books invariant and accepts the command at `now`, the tables after it
+-- are those before it with `change` applied and its stamp as the last stamp. Vacuous otherwise.
 abbrev pub HasTableEffect : Base → ℕ → Command → (Tables → Tables) → Type 0
 HasTableEffect base now command change =
     BooksInvariant base → refusal_of_command base now command ≡ None
@@ -40,9 +38,8 @@ tables_with_listing stamp l t =
 abbrev pub stored_reply_row : Key → Command → Reply → Kept
 stored_reply_row key command reply = record { key = key; row_text = row_text command; line = line_text reply }
 
--- At the clock reading `now`, the base accepts the command with the reply `reply`. The tables after
--- the command are the tables before it with `change` applied and `stamp` set as the last stamp, and
--- the base after the command satisfies the books invariant.
+-- At `now` the base accepts the command with `reply`; the base after it satisfies the books
+-- invariant, and its tables are the earlier ones with `change` applied and the last stamp `stamp`.
 pub record IsAcceptedWithEffect (base : Base) (now : ℕ) (command : Command) (stamp : ℕ) (reply : Reply) (change : Tables → Tables) : Type 0 where
   pub steps : step base now command ≡ Ok (reply, base_after_command base now command)
   pub rows : sheets (base_after_command base now command) ≡ tables_with_last_stamp stamp (change (sheets base))

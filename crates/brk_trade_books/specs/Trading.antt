@@ -9,8 +9,7 @@ use Rattle.brk_model.specs.Feed.{is_triggering_price}
 use Rattle.brk_trade_rows.specs.Changes.{tables_with_trade, tables_with_history_row, tables_with_request, tables_without_request}
 use Rattle.brk_trade_rows.specs.Changes.{tables_with_last_trade_replaced, tables_with_trade_status}
 
--- The row of TRADE_HISTORY that records the status `status` of the trade with the id `trade` at the
--- stamp `stamp`.
+-- The row of TRADE_HISTORY with the status `status` of the trade `trade` at the stamp `stamp`.
 abbrev pub history_row_of_status : ℕ → Status → ℕ → HistoryRow
 history_row_of_status trade status stamp = record { trade = trade; status = status; stamp = stamp }
 
@@ -20,8 +19,7 @@ history_row_of_status trade status stamp = record { trade = trade; status = stat
 abbrev pub request_row_of_pending_trade : TradeRow → ℕ → RequestRow
 request_row_of_pending_trade r broker = record { trade = r.id; kind = r.kind; symbol = r.symbol; qty = r.qty; bid = r.bid; broker = broker }
 
--- The tables with the row `r` of TRADE_REQUEST added if `waits` is true; otherwise the tables
--- unchanged.
+-- The tables with the row `r` of TRADE_REQUEST added if `waits` is true, otherwise unchanged.
 abbrev pub tables_with_request_if_pending : (waits : Bool) → RequestRow → Tables → Tables
 tables_with_request_if_pending waits r t = if waits then tables_with_request r t else t
 
@@ -34,28 +32,24 @@ tables_after_order r waits broker t =
 
 -- ---- a trade that is no longer pending
 
--- The tables with the status of the trade `id` set to `status` and its stamp to `stamp`, a row of
--- TRADE_HISTORY added for this status, and the trade's row of TRADE_REQUEST deleted. The row of
--- TRADE_HISTORY is added even if there is no such trade or no such request.
+-- The tables with status and stamp of the trade `id` set, a row of TRADE_HISTORY added for them,
+-- even if there is no such trade, and the trade's row of TRADE_REQUEST, if any, deleted.
 abbrev pub tables_after_change_from_pending : ℕ → Status → ℕ → Tables → Tables
 tables_after_change_from_pending id status stamp t =
     tables_without_request id (tables_with_history_row (history_row_of_status id status stamp) (tables_with_trade_status id status stamp t))
 
 -- The tables with the trade `id` canceled at the stamp `stamp`
--- (`tables_after_change_from_pending`): its status and its stamp set, a row of TRADE_HISTORY added,
--- and its row of TRADE_REQUEST deleted.
+-- (`tables_after_change_from_pending`).
 abbrev pub tables_after_cancel : ℕ → ℕ → Tables → Tables
 tables_after_cancel stamp id t = tables_after_change_from_pending id Canceled stamp t
 
 -- ---- a feed
 
--- The row `l` of LAST_TRADE after the tick, with the stamp `stamp`, the price of the tick, and the
--- tick's quantity added to the volume.
+-- The row `l` of LAST_TRADE with a tick's price, the stamp `stamp`, and the tick's quantity added.
 abbrev pub last_trade_row_after_tick : ℕ → Tick → LastTradeRow → LastTradeRow
 last_trade_row_after_tick stamp tick l = record l { stamp = stamp; price = tick.price; volume = l.volume + tick.qty }
 
--- The tables with the row of LAST_TRADE of the tick's symbol updated by the tick at the stamp
--- `stamp`. They are unchanged if the symbol has no such row.
+-- The tables with the row of LAST_TRADE of the tick's symbol, if any, updated at the stamp `stamp`.
 abbrev pub tables_with_last_trade_after_tick : ℕ → Tick → Tables → Tables
 tables_with_last_trade_after_tick stamp tick t =
     option_map_or (λ l. tables_with_last_trade_replaced (last_trade_row_after_tick stamp tick l) t) (find (λ l. bytes_eq l.symbol tick.symbol) t.last_trades) t
@@ -68,9 +62,7 @@ is_triggered_request tick r = bytes_eq r.symbol tick.symbol && is_triggering_pri
 abbrev pub trade_ids_triggered_by_tick : Tick → Tables → List ℕ
 trade_ids_triggered_by_tick tick t = map (λ r. r.trade) (filter (is_triggered_request tick) t.requests)
 
--- The tables with the trades whose ids are in `trades` submitted at the stamp `stamp`, one after
--- the other (`tables_after_change_from_pending`): the status and the stamp of each set, a row of
--- TRADE_HISTORY added, and its row of TRADE_REQUEST deleted.
+-- The tables with the trades `trades` submitted at `stamp` (`tables_after_change_from_pending`).
 abbrev pub tables_with_trades_submitted : ℕ → List ℕ → Tables → Tables
 tables_with_trades_submitted stamp trades t = fold (λ t id. tables_after_change_from_pending id Submitted stamp t) t trades
 
@@ -83,8 +75,7 @@ tables_after_tick stamp tick t = tables_with_trades_submitted stamp (trade_ids_t
 abbrev pub tables_after_feed : ℕ → List Tick → Tables → Tables
 tables_after_feed stamp ticks t = fold (λ t tick. tables_after_tick stamp tick t) t ticks
 
--- The ids of the trades that the ticks trigger at the stamp `stamp`, tick by tick; each tick is
--- matched against the tables after the ticks before it.
+-- The ids of the trades that the ticks trigger at `stamp`, each over the tables after earlier ones.
 abbrev pub trade_ids_triggered_by_feed : ℕ → List Tick → Tables → List ℕ
 trade_ids_triggered_by_feed stamp [] t = []
 trade_ids_triggered_by_feed stamp (tick ∷ ticks) t =

@@ -13,22 +13,19 @@ use Rattle.brk_trade_rows.specs.declared.change.Change.TheVariants.{SetLastStamp
 use Rattle.brk_trade_plans.specs.declared.plan.Plan.{Plan}
 use Rattle.brk_trade_plans.specs.declared.reply.Reply.TheVariants as reply
 
--- The one check of a cancel against the status of its trade: without a status, which means that
--- there is no such trade, it refuses with `NoTrade`, and with a status other than pending it
--- refuses with `WrongStatus`, which contains the status.
+-- The check of a cancel against its trade's status: without one there is no such trade (`NoTrade`),
+-- and another status than pending is refused with `WrongStatus` and the status.
 abbrev pub cancel_checks : Option Status → List RefusalCheck
 cancel_checks None = (true, NoTrade) ∷ []
 cancel_checks (Some status) = (not (is_same_trade_status status Pending), WrongStatus status) ∷ []
 
--- The row changes of a cancel of `trade` at `stamp`: the trade changes from pending to canceled,
--- and the last stamp is set to `stamp`.
+-- The row changes of a cancel: `trade` changes from pending to canceled, the last stamp is set.
 abbrev pub row_changes_of_cancel : ℕ → ℕ → List Change
 row_changes_of_cancel trade stamp = row_changes_of_status_after_pending trade Canceled stamp ++ SetLastStamp stamp ∷ []
 
--- `plan` cancels `trade`, whose status is `found`, at the stamp of the command, where `last` is the
--- stamp of the last accepted command and `now` the clock reading. The trade passes its check, a
--- stamp later than `last` exists, the row changes are `row_changes_of_cancel`, and the reply is
--- `Canceled` with the stamp.
+-- `plan` cancels `trade`, whose status is `found`, at the stamp of the command. `last` is the last
+-- stamp, `now` the clock reading. The trade passes its check, a later stamp exists, and the reply
+-- is `Canceled` with the stamp.
 pub record IsCancelPlan (trade : ℕ) (found : Option Status) (last : Option ℕ) (now : ℕ) (plan : Plan) : Type 0 where
   pub stamp : ℕ
   pub accepted : first_refusal (cancel_checks found ++ later_stamp_check last now ∷ []) ≡ None

@@ -33,8 +33,7 @@ abbrev pub cash_text_of_direction : Direction → Text
 cash_text_of_direction Deposit = codes "Deposit"
 cash_text_of_direction Withdrawal = codes "Withdrawal"
 
--- The balance of the account after the movement `m`, in cents, from the facts `found`. A missing
--- account counts as balance 0.
+-- The balance after the movement `m`, in cents, from the facts `found`; a missing account has 0.
 abbrev pub balance_after_movement : Movement → MovementPlanFacts → ℤ
 balance_after_movement m found = unwrap_or found.balance (pos 0) +ℤ signed_amount_of_movement m
 
@@ -46,30 +45,26 @@ movement_checks m found =
     (is_none found.balance, NoAccount) ∷ (nat_lt greatest_amount (nat_abs (balance_after_movement m found)), Range limit.Balance)
     ∷ (found.has_all_movements, Range limit.Moves) ∷ []
 
--- The CASH_MOVE row of the movement `m` with the id `number` and the stamp `stamp`. It has no
--- trade.
+-- The CASH_MOVE row of `m` with the id `number` and the stamp `stamp`, without a trade.
 abbrev pub cash_row_of_movement : Movement → (number stamp : ℕ) → tables.CashRow
 cash_row_of_movement m number stamp =
     record { id = number; account = m.account; trade = None; stamp = stamp; amount = signed_amount_of_movement m; name = cash_text_of_direction m.direction }
 
--- The row changes of a movement: the cash row `row` is added, the balance of `account` is set to
--- `balance` cents, and the last stamp to `stamp`.
+-- The row changes of a movement: the cash row, the balance of `account` in cents, the last stamp.
 abbrev pub row_changes_of_movement : ℕ → CashRow → ℤ → ℕ → List Change
 row_changes_of_movement account row balance stamp = change.AddMove row ∷ change.SetBalance account balance ∷ change.SetLastStamp stamp ∷ []
 
--- `plan` adds the cash row of the movement `m` with the id `number`, sets the balance of its
--- account to `balance` cents and the last stamp to `stamp`, and the reply is `Moved` with the
--- stamp, the id and the balance.
+-- `plan` adds the cash row of `m` with the id `number`, sets the balance, in cents, and the last
+-- stamp, and replies `Moved` with the stamp, the id and the balance.
 pub record AppliesMovement (m : Movement) (number : ℕ) (balance : ℤ) (stamp : ℕ) (plan : Plan) : Type 0 where
   pub row : CashRow
   pub posted : abstract_cash_row row ≡ cash_row_of_movement m number stamp
   pub replied : plan.reply ≡ reply.Moved stamp number balance
   pub changes : plan.changes.items ≡ row_changes_of_movement m.account row balance stamp
 
--- `plan` applies the movement `m` at the stamp of the command, where `found` are the facts in the
--- tables, `last` is the stamp of the last accepted command, and `now` the clock reading. The
--- movement passes its checks, a stamp later than `last` exists, and `plan` adds the cash row with
--- the next id, `found.next`, and sets the balance after the movement (`AppliesMovement`).
+-- `plan` applies `m` at the stamp of the command. `found` are the facts in the tables, `last` is
+-- the last stamp, `now` the clock reading. The movement passes its checks, a later stamp exists,
+-- and `plan` has the next id, `found.next`, and the balance after the movement (`AppliesMovement`).
 pub record IsMovementPlan (m : Movement) (found : MovementPlanFacts) (last : Option ℕ) (now : ℕ) (plan : Plan) : Type 0 where
   pub stamp : ℕ
   pub accepted : first_refusal (movement_checks m found ++ later_stamp_check last now ∷ []) ≡ None

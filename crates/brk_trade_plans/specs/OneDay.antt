@@ -9,23 +9,20 @@ use Rattle.brk_trade_plans.specs.Reference.{later_stamp_check}
 use Rattle.brk_trade_plans.specs.declared.plan.Plan.{Plan}
 use Rattle.brk_trade_plans.specs.declared.reply.Reply.TheVariants as reply
 
--- The check that `day`, in days since 1970-01-01, is later than the day (UTC) of the command's
--- stamp (`TooEarly`), where `last` is the last stamp and `now` the clock reading. It passes if no
--- stamp later than `last` exists.
+-- The check that `day`, in days since 1970-01-01, is later than the UTC day of the command's stamp
+-- (`TooEarly`). `last` is the last stamp, `now` the clock reading. It passes without a later stamp.
 abbrev pub later_one_day_settlement_start_check : ℕ → Option ℕ → ℕ → RefusalCheck
 later_one_day_settlement_start_check day last now = (option_map_or (λ stamp. nat_le day (day_of stamp)) (stamp_after last now) false, TooEarly)
 
 -- The checks of `day`, in days since 1970-01-01, as the first day of one-day settlement, in this
--- order: no first day of one-day settlement is set yet (`rule` is `None`; `Exists`), a stamp later
--- than `last` exists (`ClockEnd`), and `day` is later than the day (UTC) of the command's stamp
--- (`TooEarly`). `last` is the last stamp, and `now` the clock reading.
+-- order: none is set yet (`Exists`), a stamp later than `last` exists (`ClockEnd`), and `day` is
+-- later than the UTC day of the command's stamp (`TooEarly`). `now` is the clock reading.
 abbrev pub one_day_settlement_checks : ℕ → Option ℕ → Option ℕ → ℕ → List RefusalCheck
 one_day_settlement_checks day rule last now = duplicate_check (is_some rule) ∷ later_stamp_check last now ∷ later_one_day_settlement_start_check day last now ∷ []
 
 -- `plan` sets the first day of one-day settlement to `day`, in days since 1970-01-01, and the last
--- stamp to the stamp of the command, where `rule` is the first day of one-day settlement that is
--- set already, if any, `last` is the last stamp, and `now` the clock reading. The day passes its
--- checks, and the reply is `Booked` with the stamp.
+-- stamp. `rule` is the day that is set already, if any, `last` the last stamp, `now` the clock
+-- reading. The day passes its checks, and the reply is `Booked` with the stamp.
 pub record IsOneDaySettlementPlan (day : ℕ) (rule : Option ℕ) (last : Option ℕ) (now : ℕ) (plan : Plan) : Type 0 where
   pub stamp : ℕ
   pub accepted : first_refusal (one_day_settlement_checks day rule last now) ≡ None

@@ -29,30 +29,26 @@ abbrev pub toggled_cash_type_text : Bool → Text → Text
 toggled_cash_type_text is_cash word =
     if is_cash then toggled_word (codes "Cash Account") (codes "Cash") word else toggled_word (codes "Margin Account") (codes "Margin") word
 
--- The new cash text (CM_NAME) of a trade whose present one is `name`: the name of its type, a
--- space, its quantity, the words " Shares of " if `name` contains " shares of " and " shares of "
--- otherwise, and the name `security` of its security.
+-- The new cash text (CM_NAME) of a trade whose present one is `name`: type name, space, quantity, "
+-- Shares of " if `name` contains " shares of ", otherwise " shares of ", and security name.
 abbrev pub toggled_cash_text : TradeType → ℕ → Text → Text → Text
 toggled_cash_text kind qty security name =
     if contains_text (codes " shares of ") name then cash_row_name_from_parts (codes " Shares of ") kind qty security
     else cash_row_name_from_parts (codes " shares of ") kind qty security
 
--- The new cash text of the trade of `p`, where `security` is the name of its security: with the
--- words " Shares of " if the present text contains " shares of ", and with " shares of " otherwise.
+-- The new cash text of the trade of `p`, with the security's name `security` (`toggled_cash_text`).
 abbrev pub toggled_cash_text_of_trade : Text → CashText → Text
 toggled_cash_text_of_trade security p = toggled_cash_text p.kind p.qty security (string_bytes p.name)
 
--- The refusal of a text update whose target does not exist: `NoTrade` if it names trades, of which
--- at least one does not exist, `NoAccount` if it names an account, and `NoSecurity` if it names a
--- security.
+-- The refusal of a text update whose target is missing: `NoTrade` for a trade, `NoAccount` for an
+-- account, `NoSecurity` for a security.
 abbrev pub missing_target_refusal : told.Update → Refusal
 missing_target_refusal (update.Executors trades) = NoTrade
 missing_target_refusal (update.CashTypes account span) = NoAccount
 missing_target_refusal (update.CashNames symbol span) = NoSecurity
 
--- The check of the text update `u`: its target exists, that is each trade (`NoTrade`), the account
--- (`NoAccount`) or the security (`NoSecurity`) that it names. `found` is `None` if the target does
--- not exist.
+-- The check that each trade (`NoTrade`), the account (`NoAccount`) or the security (`NoSecurity`)
+-- that `u` names exists. `found` is `None` otherwise.
 abbrev pub update_checks : told.Update → Option TextUpdate → List RefusalCheck
 update_checks u found = (is_none found, missing_target_refusal u) ∷ []
 
@@ -66,14 +62,12 @@ tables_with_updated_executor_name trade = tables_with_executor_name trade.id (up
 abbrev pub tables_with_toggled_cash_type : SettlementText → Tables → Tables
 tables_with_toggled_cash_type s = tables_with_cash_type s.trade (toggled_cash_type_text s.is_cash (cash_type_text s.cash_type))
 
--- The function on tables that sets the cash text of the trade of `p` to the new one
--- (`toggled_cash_text_of_trade`) of the text in `p`, where `security` is the name of its security.
--- Tables without a cash row of the trade are unchanged.
+-- The function on tables that sets the cash text of the trade of `p` to its new one
+-- (`toggled_cash_text_of_trade`); tables without its cash row are unchanged.
 abbrev pub tables_with_toggled_cash_text : Text → CashText → Tables → Tables
 tables_with_toggled_cash_text security p = tables_with_cash_text p.trade (toggled_cash_text_of_trade security p)
 
--- The functions on tables that replace the text of each selected trade by its new one, in the
--- sequence of the trades.
+-- The functions on tables that replace the text of each selected trade by its new one, in sequence.
 abbrev pub table_updates_of_text_update : TextUpdate → List (Tables → Tables)
 table_updates_of_text_update (corrected.Executors trades) = map tables_with_updated_executor_name trades.items
 table_updates_of_text_update (corrected.CashTypes settled) = map tables_with_toggled_cash_type settled.items
@@ -85,10 +79,9 @@ count_of_updated_trades (corrected.Executors trades) = length trades.items
 count_of_updated_trades (corrected.CashTypes settled) = length settled.items
 count_of_updated_trades (corrected.CashNames security paid) = length paid.items
 
--- The row changes of `plan` replace the text of each trade of `found` by its new one, in the
--- sequence of the trades, then set the last stamp to the stamp of the command, and do no more.
--- `last` is the last stamp, if any, and `now` the clock reading. A stamp later than `last` exists,
--- and the reply is `Changed` with the stamp and the count of the trades.
+-- The row changes of `plan` replace the text of each trade of `found` by its new one, in sequence,
+-- then set the last stamp, and do no more. `last` is the last stamp, if any, `now` the clock
+-- reading. A later stamp exists, and the reply is `Changed` with the stamp and the count of trades.
 pub record IsUpdatePlan (found : TextUpdate) (last : Option ℕ) (now : ℕ) (plan : Plan) : Type 0 where
   pub stamp : ℕ
   pub stamped : stamp_after last now ≡ Some stamp

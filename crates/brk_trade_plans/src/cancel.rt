@@ -6,7 +6,7 @@ ghost use Rattle.brk_trade_plans.specs.Reference.{later_stamp_check};
 
 use crate::plan::Plan;
 use crate::reply::Reply;
-use crate::waiting::append_pending_changes;
+use crate::waiting::append_status_after_pending;
 use brk_money::{Id, Planned, Refusal, Stamp, Status, stamp_after};
 use brk_trade_rows::Change;
 use std::alloc::{AllocError, Global};
@@ -25,7 +25,7 @@ fn cancel_changes(alloc: Global, trade: Id, stamp: Stamp) -> Result<Vec<Change>,
     ensures changes { IfOk result (λ changes. changes.items ≡ row_changes_of_cancel trade stamp) }
 {
     let mut changes = Vec::new(alloc);
-    append_pending_changes(trade, Status::Canceled, stamp, &mut changes)?;
+    append_status_after_pending(trade, Status::Canceled, stamp, &mut changes)?;
     changes.push(Change::SetLastStamp(stamp))?;
     Ok(changes)
 }

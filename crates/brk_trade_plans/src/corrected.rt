@@ -1,3 +1,5 @@
+//! The trades whose texts a text update replaces, and what the new texts are formed from.
+
 use brk_money::{Id, Qty, TradeType};
 use brk_ref::{CashType, Name, TradeRow};
 

@@ -16,7 +16,7 @@ ghost use Rattle.brk_trade_rows.specs.declared.change.Change.TheVariants.{SetLas
 use crate::plan::Plan;
 use crate::quote::Quote;
 use crate::reply::Reply;
-use crate::waiting::append_pending_changes;
+use crate::waiting::append_status_after_pending;
 use brk_money::{Id, Limit, Planned, Price, Refusal, Stamp, Status, TradeType, stamp_after};
 use brk_ref::{LastTrade, RequestRow, Symbol, Volume};
 use brk_ref_orders::{Feed, Tick};
@@ -59,7 +59,7 @@ fn has_tick_without_quote(quotes: &[Quote], ticks: &[Tick]) -> bool
         .any(|tick| has_no_quote_of_symbol(quotes, tick))
 }
 
-fn last_after_tick(stamp: Stamp, tick: &Tick, last: LastTrade) -> Result<LastTrade, Refusal>
+fn last_trade_after_tick(stamp: Stamp, tick: &Tick, last: LastTrade) -> Result<LastTrade, Refusal>
     ensures after { IfOk result (λ after. after ≡ spec.last_trade_after_tick stamp tick.now last) }
     ensures refusal { IfErr result (λ refusal. (refusal ≡ Range limit.Volume)
         × (has_volume_above_limit (record { last = spec.last_trade_after_tick stamp tick.now last; requests = [] }) ≡ true)) }
@@ -99,7 +99,7 @@ fn submit_triggered(
 {
     for request in requests {
         if is_triggered_at_price(request.kind, request.bid, price) {
-            append_pending_changes(request.trade, Status::Submitted, stamp, changes)?;
+            append_status_after_pending(request.trade, Status::Submitted, stamp, changes)?;
             ids.push(request.trade)?;
         }
     }
@@ -146,7 +146,7 @@ fn apply_to_quote(
         return Ok(Ok(quote));
     }
     let Quote { last, requests } = quote;
-    let last = match last_after_tick(stamp, tick, last) {
+    let last = match last_trade_after_tick(stamp, tick, last) {
         Ok(last) => last,
         Err(refusal) => return Ok(Err(refusal)),
     };

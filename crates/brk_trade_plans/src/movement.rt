@@ -57,6 +57,7 @@ pub fn add_within_balance_limit(balance: Cents, amount: Cents) -> Option<Cents>
     Cents::new(balance.get() + amount.get())
 }
 
+// Returns the balance after the movement, or the first refusal of the checks before the clock's.
 fn checked_balance(movement: &Movement, found: &MovementPlanFacts) -> Result<Cents, Refusal>
     ensures { MatchResult result
         (λ balance. (first_refusal (movement_checks movement.now found.now) ≡ None) × (balance ≡ spec.balance_after_movement movement.now found.now))
@@ -92,7 +93,7 @@ fn moved_cash_row(
     })
 }
 
-fn move_changes(
+fn movement_changes(
     alloc: Global,
     account: Id,
     row: CashRow,
@@ -118,7 +119,7 @@ fn movement_plan(
     ensures moved { IfOk result (λ plan. AppliesMovement movement.now number balance stamp plan) }
 {
     let row = moved_cash_row(alloc, movement, number, stamp)?;
-    let changes = move_changes(alloc, movement.account, row, balance, stamp)?;
+    let changes = movement_changes(alloc, movement.account, row, balance, stamp)?;
     Ok(Plan {
         changes,
         reply: Reply::Moved {

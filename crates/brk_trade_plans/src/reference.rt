@@ -1,3 +1,5 @@
+//! The plan of a new record of reference data: a broker, a customer, an account and so on.
+
 ghost use Rattle.std.specs.Prelude.{◌≡◌, ◌∷◌, ◌++◌, [], IfOk, OnErr, Err, MatchResult, None, Some, if◌then◌else◌};
 ghost use Rattle.brk_model.specs.Tests.{first_refusal};
 ghost use Rattle.brk_money.specs.declared.fault.Fault.TheVariants.{Memory};
@@ -152,7 +154,7 @@ fn customer_tax_refusal(found: ReferenceFacts) -> Option<Refusal>
 }
 
 // For a listing, adds the SECURITY row only.
-fn record_change(reference: &Reference) -> Result<Change, AllocError>
+fn change_adding_record(reference: &Reference) -> Result<Change, AllocError>
     ensures { IfOk result (λ change. change ≡ row_change_adding_record reference.now) }
 {
     match reference {
@@ -168,7 +170,7 @@ fn record_change(reference: &Reference) -> Result<Change, AllocError>
     }
 }
 
-fn first_last_trade(listing: &Listing, stamp: Stamp) -> Result<LastTrade, AllocError>
+fn initial_last_trade(listing: &Listing, stamp: Stamp) -> Result<LastTrade, AllocError>
     ensures { IfOk result (λ row. row ≡ spec.initial_last_trade_of_listing stamp listing.now) }
 {
     Ok(LastTrade {
@@ -179,7 +181,7 @@ fn first_last_trade(listing: &Listing, stamp: Stamp) -> Result<LastTrade, AllocE
     })
 }
 
-fn record_changes(
+fn reference_changes(
     alloc: Global,
     reference: &Reference,
     stamp: Stamp,
@@ -187,9 +189,9 @@ fn record_changes(
     ensures changes { IfOk result (λ changes. changes.items ≡ row_changes_adding_record stamp reference.now ++ change.SetLastStamp stamp ∷ []) }
 {
     let mut changes = Vec::new(alloc);
-    changes.push(record_change(reference)?)?;
+    changes.push(change_adding_record(reference)?)?;
     if let Reference::Security(listing) = reference {
-        changes.push(Change::AddLastTrade(first_last_trade(listing, stamp)?))?;
+        changes.push(Change::AddLastTrade(initial_last_trade(listing, stamp)?))?;
     }
     changes.push(Change::SetLastStamp(stamp))?;
     Ok(changes)
@@ -222,7 +224,7 @@ pub fn plan_reference(
     let Some(stamp) = stamp_after(last, now) else {
         return Ok(Err(Refusal::ClockEnd));
     };
-    let changes = record_changes(alloc, reference, stamp)?;
+    let changes = reference_changes(alloc, reference, stamp)?;
     Ok(Ok(Plan {
         changes,
         reply: Reply::Booked(stamp),

@@ -1,3 +1,5 @@
+//! The lowest and the highest price of the ticks of a symbol.
+
 ghost use Rattle.std.specs.Prelude.{◌≡◌};
 ghost use Rattle.brk_trade_plans.specs.Feed as spec;
 

@@ -10,7 +10,7 @@ ghost use Rattle.brk_trade_plans.specs.Update.{tables_with_updated_executor_name
 use crate::corrected::{CashText, SettlementText, TextUpdate};
 use crate::plan::Plan;
 use crate::reply::Reply;
-use crate::wording::{toggle_executor, toggle_text, toggle_type};
+use crate::wording::{toggle_cash_text, toggle_cash_type, toggle_executor};
 use brk_money::{Planned, Refusal, Stamp, stamp_after};
 use brk_ref::{Name, TradeRow};
 use brk_ref_orders::Update;
@@ -42,14 +42,14 @@ fn cash_type_change(settled: &SettlementText) -> Change
 {
     Change::SetCashType {
         trade: settled.trade,
-        cash_type: toggle_type(settled.is_cash, settled.cash_type),
+        cash_type: toggle_cash_type(settled.is_cash, settled.cash_type),
     }
 }
 
 fn cash_name_change(alloc: Global, security: &Name, paid: &CashText) -> Result<Change, AllocError>
     ensures change { IfOk result (λ change. tables_after_change change ≡ tables_with_toggled_cash_text security.now paid.now) }
 {
-    let name = toggle_text(alloc, paid, security)?;
+    let name = toggle_cash_text(alloc, paid, security)?;
     Ok(Change::SetCashName {
         trade: paid.trade,
         name,

@@ -1,3 +1,5 @@
+//! The row changes of a pending trade that is submitted or canceled.
+
 ghost use Rattle.std.specs.Prelude.{◌≡◌, ◌++◌, OnOk};
 ghost use Rattle.brk_trade_plans.specs.Waiting.{row_changes_of_status_after_pending};
 
@@ -7,7 +9,7 @@ use brk_trade_rows::Change;
 use std::alloc::AllocError;
 
 // Sets the status and the stamp, adds a history row and deletes the trade's request.
-pub(crate) fn append_pending_changes(
+pub(crate) fn append_status_after_pending(
     trade: Id,
     status: Status,
     stamp: Stamp,

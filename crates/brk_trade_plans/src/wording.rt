@@ -49,7 +49,7 @@ pub fn toggle_executor(alloc: Global, name: &str) -> Result<String, AllocError>
 
 /// Returns `Cash` for `CashAccount` and otherwise `CashAccount` if the trade is a cash trade, and
 /// `Margin` for `MarginAccount` and otherwise `MarginAccount` if it is a margin trade.
-pub fn toggle_type(is_cash: bool, cash_type: CashType) -> CashType
+pub fn toggle_cash_type(is_cash: bool, cash_type: CashType) -> CashType
     ensures { cash_type_text result ≡ spec.toggled_cash_type_text is_cash (cash_type_text cash_type) }
 {
     match (is_cash, cash_type) {
@@ -66,7 +66,7 @@ fn append_quantity(text: &mut String, qty: Qty, words: &str) -> Result<(), Alloc
     write!(text, " {}{words}", qty.get())
 }
 
-fn format_text(
+fn format_cash_text(
     alloc: Global,
     paid: &CashText,
     words: &str,
@@ -82,12 +82,16 @@ fn format_text(
 
 /// Returns the cash text formed anew: with " Shares of " if the present text has " shares of " and
 /// with " shares of " otherwise.
-pub fn toggle_text(alloc: Global, paid: &CashText, security: &Name) -> Result<String, AllocError>
+pub fn toggle_cash_text(
+    alloc: Global,
+    paid: &CashText,
+    security: &Name,
+) -> Result<String, AllocError>
     ensures { IfOk result (λ text. string_bytes text ≡ spec.toggled_cash_text_of_trade security.now paid.now) }
 {
     if contains_part(paid.name.as_str(), " shares of ") {
-        format_text(alloc, paid, " Shares of ", security)
+        format_cash_text(alloc, paid, " Shares of ", security)
     } else {
-        format_text(alloc, paid, " shares of ", security)
+        format_cash_text(alloc, paid, " shares of ", security)
     }
 }

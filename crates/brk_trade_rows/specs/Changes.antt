@@ -1,5 +1,6 @@
 -- The effect of each row change on the tables, whose rows are sorted by key. A row that is inserted
 -- replaces none: it stands before the first row whose key is not less than its own, or at the end.
+-- An update or a deletion of a row that does not exist changes nothing.
 use Rattle.std.specs.Prelude.{ℕ, ℤ, ◌==◌, ◌&&◌, not, filter, bytes_eq, pos, List, fold, Some, string_bytes}
 use Rattle.brk_money.specs.Spelling.{Text}
 use Rattle.brk_money.specs.declared.status.Status.{Status}
@@ -26,8 +27,7 @@ use Rattle.brk_trade_rows.specs.declared.change.Change.TheVariants.{AddLotChange
 use Rattle.brk_trade_rows.specs.declared.change.Change.TheVariants.{SetBalance, SetBrokerTotals, SetExecutor, SetCashType, SetCashName, SetOneDaySettlementStart}
 use Rattle.brk_trade_rows.specs.declared.change.Change.TheVariants.{AddStoredReply, SetLastStamp}
 
--- The tables `t` with the broker `b` inserted in key order, with 0 completed trades and 0
--- commissions.
+-- The tables `t` with the broker `b` inserted in key order, with 0 trades and commissions.
 abbrev pub tables_with_broker : Broker → Tables → Tables
 tables_with_broker b t = record t { brokers = insert_row_by_key broker_key (record { id = b.id; name = b.name; trades = pos 0; commissions = 0 }) t.brokers }
 
@@ -75,8 +75,7 @@ tables_with_customer_tax x t = record t { customer_taxes = insert_row_by_key cus
 abbrev pub tables_with_trade : TradeRow → Tables → Tables
 tables_with_trade r t = record t { trades = insert_row_by_key trade_key r t.trades }
 
--- The tables `t` with the status and the stamp of the trade `id` set to `status` and `stamp`. They
--- are unchanged if there is no such trade.
+-- The tables `t` with the status and the stamp of the trade `id` set to `status` and `stamp`.
 abbrev pub tables_with_trade_status : ℕ → Status → ℕ → Tables → Tables
 tables_with_trade_status id status stamp t = record t { trades = update_where (λ r. r.id == id) (λ r. record r { status = status; stamp = stamp }) t.trades }
 
@@ -88,21 +87,18 @@ tables_with_history_row r t = record t { history = insert_row_by_key history_key
 abbrev pub tables_with_request : RequestRow → Tables → Tables
 tables_with_request r t = record t { requests = insert_row_by_key request_key r t.requests }
 
--- The tables `t` without the TRADE_REQUEST row of `trade`. They are unchanged if the trade has no
--- such row.
+-- The tables `t` without the TRADE_REQUEST row of `trade`.
 abbrev pub tables_without_request : ℕ → Tables → Tables
 tables_without_request trade t = record t { requests = filter (λ r. not (r.trade == trade)) t.requests }
 
--- The tables `t` with the stamp, the price and the volume in the LAST_TRADE row of the symbol of
--- `l` set to the values in `l`. They are unchanged if the symbol has no row.
+-- The tables `t` with stamp, price and volume in the LAST_TRADE row of the symbol set as in `l`.
 abbrev pub tables_with_last_trade_replaced : LastTradeRow → Tables → Tables
 tables_with_last_trade_replaced l t =
     record t
     { last_trades = update_where (λ r. bytes_eq r.symbol l.symbol) (λ r. record r { stamp = l.stamp; price = l.price; volume = l.volume }) t.last_trades }
 
--- The tables `t` with the status of the trade `id` set to `Completed`, and its stamp, price,
--- commission and tax set to `stamp`, `price`, `commission` and `tax`, the last three in cents. They
--- are unchanged if there is no such trade.
+-- The tables `t` with the trade `id` set to `Completed`, and to its stamp, price, commission and
+-- tax, the last three in cents.
 abbrev pub tables_with_trade_completed : (id stamp price commission tax : ℕ) → Tables → Tables
 tables_with_trade_completed id stamp price commission tax t = record t {
   trades = update_where (λ r. r.id == id)
@@ -113,13 +109,11 @@ tables_with_trade_completed id stamp price commission tax t = record t {
 abbrev pub tables_with_lot : HoldingRow → Tables → Tables
 tables_with_lot r t = record t { holdings = insert_row_by_key holding_key r t.holdings }
 
--- The tables `t` with the quantity of the lot that `trade` opened set to `qty`, in shares, below 0
--- for shares sold short. They are unchanged if there is no such lot.
+-- The tables `t` with the quantity of the lot of `trade` set to `qty` shares (below 0 if short).
 abbrev pub tables_with_lot_quantity : ℕ → ℤ → Tables → Tables
 tables_with_lot_quantity trade qty t = record t { holdings = update_where (λ r. r.trade == trade) (λ r. record r { qty = qty }) t.holdings }
 
--- The tables `t` without the HOLDING row of the lot that `trade` opened. They are unchanged if
--- there is no such lot.
+-- The tables `t` without the HOLDING row of the lot that `trade` opened.
 abbrev pub tables_without_lot : ℕ → Tables → Tables
 tables_without_lot trade t = record t { holdings = filter (λ r. not (r.trade == trade)) t.holdings }
 
@@ -131,14 +125,12 @@ tables_with_lot_change r t = record t { holding_history = insert_row_by_key hold
 abbrev pub tables_with_summary : SummaryRow → Tables → Tables
 tables_with_summary r t = record t { summaries = insert_row_by_key summary_key r t.summaries }
 
--- The tables `t` with the quantity in the HOLDING_SUMMARY row of the account and the symbol of `s`
--- set to the quantity of `s`. They are unchanged if there is no such row.
+-- The tables `t` with the quantity in the HOLDING_SUMMARY row of the position of `s` set as in `s`.
 abbrev pub tables_with_summary_quantity : SummaryRow → Tables → Tables
 tables_with_summary_quantity s t =
     record t { summaries = update_where (λ r. (r.account == s.account) && bytes_eq r.symbol s.symbol) (λ r. record r { qty = s.qty }) t.summaries }
 
--- The tables `t` without the HOLDING_SUMMARY row of `account` and `symbol`. They are unchanged if
--- there is no such row.
+-- The tables `t` without the HOLDING_SUMMARY row of `account` and `symbol`.
 abbrev pub tables_without_summary : ℕ → Text → Tables → Tables
 tables_without_summary account symbol t = record t { summaries = filter (λ r. not ((r.account == account) && bytes_eq r.symbol symbol)) t.summaries }
 
@@ -150,29 +142,24 @@ tables_with_settlement r t = record t { settlements = insert_row_by_key settleme
 abbrev pub tables_with_cash_row : CashRow → Tables → Tables
 tables_with_cash_row r t = record t { moves = insert_row_by_key cash_move_key r t.moves }
 
--- The tables `t` with the balance of `account` set to `balance` cents. They are unchanged if there
--- is no such account.
+-- The tables `t` with the balance of `account` set to `balance` cents.
 abbrev pub tables_with_balance : ℕ → ℤ → Tables → Tables
 tables_with_balance account balance t = record t { accounts = update_where (λ r. r.id == account) (λ r. record r { balance = balance }) t.accounts }
 
--- The tables `t` with the number of completed trades of `broker` set to `trades`, and its
--- commissions to `commissions` cents. They are unchanged if there is no such broker.
+-- The tables `t` with the broker's number of completed trades and commissions, in cents, set.
 abbrev pub tables_with_broker_totals : ℕ → ℤ → ℕ → Tables → Tables
 tables_with_broker_totals broker trades commissions t =
     record t { brokers = update_where (λ r. r.id == broker) (λ r. record r { trades = trades; commissions = commissions }) t.brokers }
 
--- The tables `t` with the executor's name in the TRADE row of `trade` set to `name`. They are
--- unchanged if there is no such trade.
+-- The tables `t` with the executor's name in the TRADE row of `trade` set to `name`.
 abbrev pub tables_with_executor_name : ℕ → Text → Tables → Tables
 tables_with_executor_name trade name t = record t { trades = update_where (λ r. r.id == trade) (λ r. record r { executor = name }) t.trades }
 
--- The tables `t` with the settlement text of `trade` (SE_CASH_TYPE) set to `word`. They are
--- unchanged if the trade has no settlement.
+-- The tables `t` with the settlement text of `trade` (SE_CASH_TYPE) set to `word`.
 abbrev pub tables_with_cash_type : ℕ → Text → Tables → Tables
 tables_with_cash_type trade word t = record t { settlements = update_where (λ r. r.trade == trade) (λ r. record r { cash_type = word }) t.settlements }
 
--- The tables `t` with the text in the CASH_MOVE row of `trade` set to `name`. They are unchanged if
--- the trade has no such row.
+-- The tables `t` with the text in the CASH_MOVE row of `trade` set to `name`.
 abbrev pub tables_with_cash_text : ℕ → Text → Tables → Tables
 tables_with_cash_text trade name t = record t { moves = update_where (is_cash_row_of_trade trade) (λ r. record r { name = name }) t.moves }
 
@@ -180,19 +167,16 @@ tables_with_cash_text trade name t = record t { moves = update_where (is_cash_ro
 abbrev pub tables_with_one_day_settlement_start : ℕ → Tables → Tables
 tables_with_one_day_settlement_start day t = record t { rule = Some day }
 
--- The tables `t` with the KEPT row `k` inserted in key order: a stored request and its stored
--- reply.
+-- The tables `t` with the KEPT row `k` (stored request and stored reply) inserted in key order.
 abbrev pub tables_with_stored_reply : Kept → Tables → Tables
 tables_with_stored_reply k t = record t { kept = insert_row_by_key kept_key k t.kept }
 
--- The tables `t` with the stamp of the last accepted command set to `stamp`, in milliseconds since
--- 1970-01-01 UTC.
+-- The tables `t` with the last stamp set to `stamp`, in milliseconds since 1970-01-01 UTC.
 abbrev pub tables_with_last_stamp : ℕ → Tables → Tables
 tables_with_last_stamp stamp t = record t { last = Some stamp }
 
--- The function that returns the tables after one typed row change: a row is inserted, updated or
--- deleted, or the first day of one-day settlement or the last stamp is set. To update or delete a
--- row that does not exist changes nothing.
+-- The function that returns the tables after a typed row change, which inserts, updates or deletes
+-- a row, or sets the first day of one-day settlement or the last stamp.
 abbrev pub tables_after_change : Change → Tables → Tables
 tables_after_change (AddBroker broker) = tables_with_broker (abstract_broker broker)
 tables_after_change (AddCustomer customer) = tables_with_customer (abstract_customer customer)

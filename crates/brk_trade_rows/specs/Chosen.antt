@@ -7,21 +7,18 @@ use Rattle.brk_model.specs.Joins.{trade_rows_oldest_first}
 use Rattle.brk_model.specs.LookupView.{row_stamp_is_between}
 use Rattle.brk_model.specs.Tables.{Tables, TradeRow}
 
--- The first twenty, or all if there are fewer, of the TRADE rows of completed trades that pass
--- `test`, in ascending order of stamp, then of id.
+-- The first 20 TRADE rows, or fewer, of completed trades that pass `test`, by stamp, then by id.
 abbrev pub first_twenty_completed_trade_rows : (TradeRow → Bool) → Tables → List TradeRow
 first_twenty_completed_trade_rows test t = take 20 (trade_rows_oldest_first (filter (λ r. is_same_trade_status r.status Completed && test r) t.trades))
 
--- The first twenty, or all if there are fewer, of the TRADE rows of `account` that were completed
--- from the stamp `first` to the stamp `last`, both included, in ascending order of stamp, then of
--- id.
+-- The first 20 TRADE rows, or fewer, of trades of `account` completed at the stamps `first` to
+-- `last`, both included, by stamp, then by id.
 abbrev pub first_twenty_completed_trade_rows_of_account : (account first last : ℕ) → Tables → List TradeRow
 first_twenty_completed_trade_rows_of_account account first last =
     first_twenty_completed_trade_rows (λ r. (r.account == account) && row_stamp_is_between first last r)
 
--- The first twenty, or all if there are fewer, of the TRADE rows of cash trades of `symbol` that
--- were completed from the stamp `first` to the stamp `last`, both included, in ascending order of
--- stamp, then of id.
+-- The first 20 TRADE rows, or fewer, of cash trades of `symbol` completed at the stamps `first` to
+-- `last`, both included, by stamp, then by id.
 abbrev pub first_twenty_completed_cash_trade_rows_of_symbol : Text → (first last : ℕ) → Tables → List TradeRow
 first_twenty_completed_cash_trade_rows_of_symbol symbol first last =
     first_twenty_completed_trade_rows (λ r. (r.is_cash && bytes_eq r.symbol symbol) && row_stamp_is_between first last r)

@@ -1,3 +1,5 @@
+//! The day on which a completed trade settles.
+
 ghost use Rattle.std.specs.Prelude.{◌≡◌, ◌≤◌, SomeIff};
 ghost use Rattle.brk_money.specs.Moments.{greatest_day};
 ghost use Rattle.brk_model.specs.Derived as derived;

@@ -156,7 +156,7 @@ record Agrees (base : Base) (price : ℕ) (t : Trade) (found : ResultPlanFacts) 
   pub balance : (outcome_planned found price closed stamp).completed.balance ≡ balance_of_account base.accounts (postings_of_base (base_after_result base stamp price t)) t.account
   pub commissions : (outcome_planned found price closed stamp).commissions
       ≡ commission_total_of_broker base.accounts (completed_trades (base_after_result base stamp price t)) (broker_id_of_account base t.account)
-  pub trades : pos (found.parties.broker.trades + 1) ≡ pos (trade_count_of_broker base.accounts (completed_trades (base_after_result base stamp price t)) (broker_id_of_account base t.account))
+  pub trades : found.parties.broker.trades +ℤ pos 1 ≡ pos (trade_count_of_broker base.accounts (completed_trades (base_after_result base stamp price t)) (broker_id_of_account base t.account))
   pub broker : found.parties.account.account.broker ≡ broker_id_of_account base t.account
 
 agrees : (base : Base) (price : ℕ) (last : Option ℕ) (now : ℕ) (t : Trade) (found : ResultPlanFacts) (closed : ClosedLots) (stamp : ℕ) → Planned base price last now t found closed stamp
@@ -176,8 +176,8 @@ agrees base price last now t found closed stamp k =
       broker = ap (λ (a : AccountTerms). a.broker) (account_found base t found f k.three);
     }
   where
-    one_more : (m n : ℕ) → pos m ≡ pos n → pos (m + 1) ≡ pos (n + 1)
-    one_more m n e = let h : m ≡ n = cc in ap (λ n. pos (n + 1)) h
+    one_more : (m : ℤ) (n : ℕ) → m ≡ pos n → m +ℤ pos 1 ≡ pos (n + 1)
+    one_more m n e = ap (λ z. z +ℤ pos 1) e
 
 -- ---- the reply
 

@@ -19,7 +19,7 @@ use Rattle.brk_model.specs.Records.{Account, Band, Broker, StatusChange, Securit
 use Rattle.brk_model.specs.Results.{trade_after_completion, deal_of_result, base_after_result}
 use Rattle.brk_model.specs.Shares.{realised_gain, signed_by_side}
 use Rattle.brk_model.specs.Sheets.{sheets, tables_sorted_by_key}
-use Rattle.brk_model.specs.Tables.{AccountRow, SecurityRow, SummaryRow, TradeRow, broker_row, security_row, last_status_of_trade, tables_of_base_in_schema, trade_row}
+use Rattle.brk_model.specs.Tables.{AccountRow, BrokerRow, SecurityRow, SummaryRow, TradeRow, broker_row, security_row, last_status_of_trade, tables_of_base_in_schema, trade_row}
 use Rattle.brk_model.specs.Tests as model
 use Rattle.brk_model.specs.Tests.{RefusalCheck, first_refusal, stamp_of_next_command, refusal_of_command, checks_of_command}
 use Rattle.brk_money.specs.Amounts.{commission, tax}
@@ -32,7 +32,7 @@ use Rattle.brk_money.specs.declared.tax_status.TaxStatus.{TaxStatus}
 use Rattle.brk_money.specs.declared.tax_status.TaxStatus.TheVariants.{Untaxed}
 use Rattle.brk_trade.specs.Outcomes.{settlement_amount_of_result, balance_after_result, commission_of_result, broker_commissions_after_result, due_day_check}
 use Rattle.brk_trade.specs.Outcomes.{quantity_in_summary, result_checks, shares_held_after_trade, shares_held_before_trade, tax_of_result}
-use Rattle.brk_ref.specs.Records.{abstract_account_row, abstract_security_row}
+use Rattle.brk_ref.specs.Records.{abstract_account_row, abstract_broker_row, abstract_security_row}
 use Rattle.brk_ref.specs.Rows.{abstract_summary_row, abstract_trade_row}
 use Rattle.brk_ref.specs.declared.summary_row.SummaryRow as summary
 use Rattle.brk_trade.specs.declared.result_found.ResultPlanFacts.{ResultPlanFacts}
@@ -165,7 +165,7 @@ rates_found base t found k p =
     ∙ reads_rates base k.owner.a.customer ∙ ap (base_spec.tax_rate_sum_of_customer base) (sym (ap (λ x. option_map_or (λ a. a.customer) x 0) k.owner.there))
 
 pub broker_found : (base : Base) (t : Trade) (found : ResultPlanFacts) → TradeFound base t found → PassesFirstResultChecks 3 found
-    → (pos found.parties.broker.trades ≡ pos (trade_count_of_broker base.accounts (completed_trades base) (broker_id_of_account base t.account)))
+    → (found.parties.broker.trades ≡ pos (trade_count_of_broker base.accounts (completed_trades base) (broker_id_of_account base t.account)))
     × (found.parties.broker.commissions ≡ commission_total_of_broker base.accounts (completed_trades base) (broker_id_of_account base t.account))
 broker_found base t found k p =
     let a : Account = k.owner.a in
@@ -174,11 +174,13 @@ broker_found base t found k p =
     let g : FoundAt Broker (λ b. b.id == a.broker) b base.brokers = find-at (λ b. b.id == a.broker) base.brokers b named.1 in
     let same : b.id ≡ broker_id_of_account base t.account = eqb-true b.id a.broker g.passes ∙ sym (ap (λ x. option_map_or (λ a. a.broker) x 0) k.owner.there) in
     let row = reads_broker base a.broker ∙ ap (option_map (broker_row base.accounts (completed_trades base))) named.1 in
-    let told = subst (λ x. IfSome x (λ r. (pos found.parties.broker.trades ≡ r.trades) × (found.parties.broker.commissions ≡ r.commissions))) row
-    (of_account base t.account (λ a. IfSome (find (λ r. r.id == a.broker) (sheets base).brokers) (λ r. (pos found.parties.broker.trades ≡ r.trades) × (found.parties.broker.commissions ≡ r.commissions))) k.owner
+    let told = subst (λ x. IfSome x (λ r. abstract_broker_row found.parties.broker ≡ r)) row
+    (of_account base t.account (λ a. IfSome (find (λ r. r.id == a.broker) (sheets base).brokers) (λ r. abstract_broker_row found.parties.broker ≡ r)) k.owner
     (subst (λ (r : TradeRow). IfSome (account_row_with_id (sheets base) r.account) (λ a. IfSome (find (λ r. r.id == a.broker) (sheets base).brokers) (λ b.
-    (pos found.parties.broker.trades ≡ b.trades) × (found.parties.broker.commissions ≡ b.commissions)))) k.row (k.read.broker p))) in
-    (told.0 ∙ ap (λ id. pos (trade_count_of_broker base.accounts (completed_trades base) id)) same, told.1 ∙ ap (commission_total_of_broker base.accounts (completed_trades base)) same)
+    abstract_broker_row found.parties.broker ≡ b))) k.row (k.read.broker p))) in (
+      ap (λ (r : BrokerRow). r.trades) told ∙ ap (λ id. pos (trade_count_of_broker base.accounts (completed_trades base) id)) same,
+      ap (λ (r : BrokerRow). r.commissions) told ∙ ap (commission_total_of_broker base.accounts (completed_trades base)) same,
+    )
 
 pub security_found : (base : Base) (t : Trade) (found : ResultPlanFacts) → TradeFound base t found → PassesFirstResultChecks 3 found → found.listed.security.name ≡ security_name base t.symbol
 security_found base t found k p =

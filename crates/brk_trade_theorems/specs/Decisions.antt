@@ -10,10 +10,9 @@ use Rattle.brk_trade_plans.specs.declared.plan.Plan.{Plan}
 use Rattle.brk_trade_books.specs.Books.{BooksInvariant}
 use Rattle.brk_trade_theorems.specs.Plans.{PlanImplementsCommand}
 
--- `planned` is the decision of the model on `command` at the clock reading `now`, in milliseconds
--- since 1970-01-01 UTC, for every base that satisfies the books invariant and has the tables `t`: a
--- plan has the effect of the model's step (`PlanImplementsCommand`), and a refusal is the refusal
--- of this step. Vacuous if no base that satisfies the books invariant has the tables `t`.
+-- `planned` is the model's decision on `command` at `now`, in milliseconds since 1970-01-01 UTC,
+-- for every base with the tables `t` and the books invariant: a plan implements the command
+-- (`PlanImplementsCommand`), a refusal is the one of the step. Vacuous without such a base.
 abbrev pub DecidesCommand : ℕ → Command → Result Plan Refusal → Tables → Type 0
 DecidesCommand now command planned t =
     (base : Base) → BooksInvariant base → t ≡ sheets base

@@ -10,9 +10,8 @@ use Rattle.brk_model.specs.Form.{has_account, has_broker, has_customer, has_secu
 use Rattle.brk_trade_books.specs.Reads.{contains_customer_with_tax_id, account_count_of_customer, contains_permission, contains_charge, overlaps_some_band}
 use Rattle.brk_trade_books.specs.Reads.{contains_tax_rate, rate_of_tax_rate_with_id, contains_customer_tax, customer_tax_rate_sum}
 
--- The facts `found` about a new account are true of the tables: whether an account with the id `id`
--- exists, whether the customer `customer` exists, whether the broker `broker` exists, and how many
--- accounts the customer has.
+-- The facts `found` about a new account are true of the tables: whether an account with its id, the
+-- customer and the broker exist, and how many accounts the customer has.
 pub record AccountFactsMatchTables (t : Tables) (id customer broker : ℕ) (found : ReferenceFacts) : Type 0 where
   pub same_id : found.same_id ≡ has_account t id
   pub customer_there : found.customer ≡ has_customer t customer
@@ -20,9 +19,8 @@ pub record AccountFactsMatchTables (t : Tables) (id customer broker : ℕ) (foun
   pub count : found.accounts ≡ account_count_of_customer t customer
 
 -- The facts `found` about the tax `tax` of the customer `customer` are true of the tables: whether
--- the customer exists, whether the customer already pays the tax, the rate of the tax (`None` if it
--- does not exist), and the sum of the customer's rates (`None` if it exceeds `greatest_tax_rate`).
--- Rates are in hundred-thousandths.
+-- the customer exists and already pays the tax, the rate of the tax (`None` if it does not exist),
+-- and the sum of the customer's rates (`None` above `greatest_tax_rate`), in hundred-thousandths.
 pub record CustomerTaxFactsMatchTables (t : Tables) (customer tax : ℕ) (found : ReferenceFacts) : Type 0 where
   pub customer_there : found.customer ≡ has_customer t customer
   pub rate_there : found.rate ≡ rate_of_tax_rate_with_id t tax
@@ -30,11 +28,10 @@ pub record CustomerTaxFactsMatchTables (t : Tables) (customer tax : ℕ) (found 
   pub sum : SomeIff found.rates (customer_tax_rate_sum t customer ≤ greatest_tax_rate) (customer_tax_rate_sum t customer)
 
 -- The facts `found` about a record of reference data are true of the tables: for a band, whether it
--- overlaps a band of its tier, type and exchange in the tables, and for any other record, whether a
--- record with its key exists. Also, for a customer, whether one with its tax id exists; for a
--- permission, whether its account exists; for an account and a customer's tax, the other facts that
--- `AccountFactsMatchTables` and `CustomerTaxFactsMatchTables` list. Facts that a record of its kind
--- does not need may have any value.
+-- overlaps one of its tier, type and exchange, otherwise whether a record with its key exists;
+-- also, for a customer, whether one with its tax id exists; for a permission, whether its account
+-- exists; for an account and a customer's tax, the other facts of `AccountFactsMatchTables` and
+-- `CustomerTaxFactsMatchTables`. Facts that the record does not need may have any value.
 abbrev pub ReferenceFactsMatchTables : Tables → Reference → ReferenceFacts → Type 0
 ReferenceFactsMatchTables t (reference.Broker broker) found = found.same_id ≡ has_broker t broker.id
 ReferenceFactsMatchTables t (reference.Customer customer) found =

@@ -23,10 +23,9 @@ use Rattle.brk_trade_books.specs.TradeReads.{last_trade_row_of_symbol}
 use Rattle.brk_trade_theorems.specs.Plans.{PlanImplementsCommand}
 use Rattle.brk_trade_theorems.specs.TradePlans.{AreQuotesOfTicks, IsQuoteOfTick}
 
--- A cancel of the trade `id` with the status `found` (`None` if there is no such trade), after the
--- last stamp `last` and at the clock reading `now`: its checks, followed by the check that a stamp
--- after `last` exists, refuse it exactly as the model does over `base`, and each plan of it
--- (`IsCancelPlan`) implements the command.
+-- A cancel of the trade `id` with the status `found` (`None` if it does not exist), after the last
+-- stamp `last` and at `now`: its checks and `later_stamp_check` refuse it exactly as the model does
+-- over `base`, and each plan of it (`IsCancelPlan`) implements the command.
 pub record CancelPlanImplementsCommand (base : Base) (id : ℕ) (found : Option Status) (last : Option ℕ) (now : ℕ) : Type 0 where
   -- The refusal of the first check that refuses, or `None` if none does, equals that of the model.
   pub first : first_refusal (cancel_checks found ++ later_stamp_check last now ∷ []) ≡ refusal_of_command base now (CancelTrade id)
@@ -35,13 +34,11 @@ pub record CancelPlanImplementsCommand (base : Base) (id : ℕ) (found : Option 
       → step base now (CancelTrade id) ≡ Err refusal
   pub done : (plan : Plan) → IsCancelPlan id found last now plan → PlanImplementsCommand base now (CancelTrade id) plan
 
--- A feed of `ticks` with the quotes `quotes`, after the last stamp `last` and at the clock reading
--- `now`: its checks, at any stamp, followed by the check that a stamp after `last` exists, refuse
--- it exactly as the model does over `base`, and each plan of it (`IsFeedPlan`) implements the
--- command.
+-- A feed of `ticks` with the quotes `quotes`, after the last stamp `last` and at `now`: its checks,
+-- at any stamp, and `later_stamp_check` refuse it exactly as the model does over `base`, and each
+-- plan of it (`IsFeedPlan`) implements the command.
 pub record FeedPlanImplementsCommand (base : Base) (ticks : List Tick) (quotes : List SymbolState) (last : Option ℕ) (now : ℕ) : Type 0 where
-  -- The refusal of the first check that refuses at any stamp, or `None` if none does, equals that
-  -- of the model.
+  -- The refusal of the first check that refuses at any stamp, if any, equals that of the model.
   pub first : (stamp : ℕ) → first_refusal (feed_checks stamp ticks quotes ++ later_stamp_check last now ∷ [])
       ≡ refusal_of_command base now (FeedTicks (abstract_ticks ticks))
   -- If a check refuses, the step of the model is this refusal.
@@ -49,10 +46,9 @@ pub record FeedPlanImplementsCommand (base : Base) (ticks : List Tick) (quotes :
       → step base now (FeedTicks (abstract_ticks ticks)) ≡ Err refusal
   pub done : (plan : Plan) → IsFeedPlan ticks quotes last now plan → PlanImplementsCommand base now (FeedTicks (abstract_ticks ticks)) plan
 
--- In the feed `all` over the tables `t`, `quotes` are the quotes of `ticks` followed by `tick` if
--- one of `quotes` has the symbol of `tick`, or if this symbol has no row of LAST_TRADE. If none of
--- `quotes` has the symbol and `tick` is one of `all`, the quotes of `ticks` followed by `tick` are
--- `quotes` followed by any quote of `tick` (`IsQuoteOfTick`).
+-- In the feed `all` over `t`, `quotes` are the quotes of `ticks` followed by `tick` if one has its
+-- symbol, or if this symbol has no row of LAST_TRADE. Otherwise, if `tick` is one of `all`,
+-- `quotes` followed by any quote of `tick` (`IsQuoteOfTick`) are.
 pub record QuotesExtendToTick (t : Tables) (all ticks : List Tick) (tick : Tick) (quotes : List Quote) : Type 0 where
   -- If the tick's symbol has a quote, no further quote is needed.
   pub again : list_any (is_state_of_symbol tick.symbol) (states_of_quotes quotes) ≡ true
@@ -64,10 +60,9 @@ pub record QuotesExtendToTick (t : Tables) (all ticks : List Tick) (tick : Tick)
       → Contains all tick → IsQuoteOfTick t tick all (state_of_quote quote)
       → AreQuotesOfTicks t all (ticks ++ tick ∷ []) (states_of_quotes (quotes ++ quote ∷ []))
 
--- A result of the trade `id` at `price`, in cents, with the facts `found` (`None` if there is no
--- such trade) and the lots `lots`, after the last stamp `last` and at the clock reading `now`: each
--- refusal by the facts and the lots (`IsResultRefusal`) is the refusal of the model's step over
--- `base`, and each plan of it (`CompletesExistingTrade`) implements the command.
+-- A result of the trade `id` at `price` cents, with the facts `found` (`None` without the trade)
+-- and the lots `lots`, after the last stamp `last` and at `now`: each refusal (`IsResultRefusal`)
+-- is the refusal of the model's step over `base`, and each plan of it implements the command.
 pub record ResultPlanImplementsCommand (base : Base) (id price : ℕ) (found : Option ResultPlanFacts) (lots : List Lot) (last : Option ℕ)
     (now : ℕ) : Type 0 where
   pub refused : (refusal : Refusal) → IsResultRefusal found price (EqualsLots lots) last now refusal → step base now (CompleteTrade id price) ≡ Err refusal

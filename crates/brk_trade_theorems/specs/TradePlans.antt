@@ -1,5 +1,4 @@
--- The preconditions of planning a cancel or a feed: the facts that are read from the tables of a
--- base.
+-- The preconditions of planning a cancel or a feed: the facts that are read from the tables.
 use Rattle.std.specs.Prelude.{◌≡◌, ◌≤◌, ⊤, ℕ, Bool, true, false, is_some, nat_le, List, [], ◌∷◌, filter, map, Option, Some, option_map}
 use Rattle.std.specs.List.{AllByRecursion, Contains, list_any}
 use Rattle.std.specs.List.Sorted.{IsNonDecreasingBy, IsPermutation}
@@ -22,9 +21,8 @@ use Rattle.brk_trade_books.specs.TradeReads.{last_trade_row_of_symbol, requests_
 
 -- ---- a cancel
 
--- The precondition of planning a cancel of the trade `id`: the base satisfies the books invariant,
--- the status of the trade (`None` if it does not exist) and the last stamp are read from its
--- tables, and the clock reading `now` is within the range of stamps.
+-- The precondition of planning a cancel of `id`: the base satisfies the books invariant, the status
+-- `found` and the last stamp are read from its tables, and `now` is within the range of stamps.
 pub record PlanCancelPrecondition (base : Base) (id : ℕ) (found : Option Status) (last : Option ℕ) (now : ℕ) : Type 0 where
   pub books : BooksInvariant base
   pub status_read : found ≡ option_map (λ r. r.status) (trade_row_with_id (sheets base) id)
@@ -33,9 +31,8 @@ pub record PlanCancelPrecondition (base : Base) (id : ℕ) (found : Option Statu
 
 -- ---- a feed
 
--- True if a price of the span can trigger a request of this trade type with the price `bid`, in
--- cents: for a stop loss and a limit buy if the lowest price is at most `bid`, for a limit sell if
--- the highest price is at least `bid`. Market types are never triggered.
+-- True if a price of the span can trigger a request of this type at `bid` cents: for stop loss and
+-- limit buy the lowest is at most `bid`, for limit sell the highest at least; never a market type.
 abbrev pub is_request_triggered_in_span : PriceSpan → TradeType → ℕ → Bool
 is_request_triggered_in_span span StopLoss bid = nat_le span.lowest bid
 is_request_triggered_in_span span LimitSell bid = nat_le bid span.highest
@@ -54,8 +51,7 @@ pub record IsQuoteOfTick (t : Tables) (tick : Tick) (ticks : List Tick) (quote :
       (map abstract_request_row quote.requests)
   pub order : IsNonDecreasingBy (λ (r : request.RequestRow). r.trade) quote.requests
 
--- For at least one of `ticks`, the quote has the row of LAST_TRADE of the tick's symbol, and the
--- requests of this symbol that the ticks can trigger (`IsQuoteOfTick`).
+-- The quote is the quote of at least one of `ticks` (`IsQuoteOfTick`).
 pub record IsQuoteOfSomeTick (t : Tables) (ticks : List Tick) (quote : SymbolState) : Type 0 where
   pub tick : Tick
   pub among : Contains ticks tick
@@ -66,8 +62,7 @@ abbrev pub HasDistinctQuoteSymbols : List SymbolState → Type 0
 HasDistinctQuoteSymbols [] = ⊤
 HasDistinctQuoteSymbols (quote ∷ quotes) = AllByRecursion (λ other. is_state_of_symbol quote.last.symbol other ≡ false) quotes × HasDistinctQuoteSymbols quotes
 
--- If the symbol of the tick has a row of LAST_TRADE in the tables, one of `quotes` has this symbol.
--- Vacuous if the symbol has no such row.
+-- If the tick's symbol has a row of LAST_TRADE, one of `quotes` has this symbol. Vacuous otherwise.
 abbrev pub HasQuoteIfSymbolHasLastTrade : Tables → List SymbolState → Tick → Type 0
 HasQuoteIfSymbolHasLastTrade t quotes tick = is_some (last_trade_row_of_symbol t tick.symbol) ≡ true → list_any (is_state_of_symbol tick.symbol) quotes ≡ true
 
@@ -79,8 +74,7 @@ pub record AreQuotesOfTicks (t : Tables) (all ticks : List Tick) (quotes : List 
   pub quoted : AllByRecursion (HasQuoteIfSymbolHasLastTrade t quotes) ticks
 
 -- The precondition of planning a feed: the base satisfies the books invariant, the quotes of the
--- ticks and the last stamp are read from its tables, and the clock reading `now` is within the
--- range of stamps.
+-- ticks and the last stamp are read from its tables, and `now` is within the range of stamps.
 pub record PlanFeedPrecondition (base : Base) (ticks : List Tick) (quotes : List SymbolState) (last : Option ℕ) (now : ℕ) : Type 0 where
   pub books : BooksInvariant base
   pub quotes_read : AreQuotesOfTicks (sheets base) ticks ticks quotes

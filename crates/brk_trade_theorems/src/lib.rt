@@ -2,9 +2,9 @@
 //! that of a text update changes only one text column. Proof-only: there is no code to call.
 #![tactic(auto)]
 
-pub mod corrections;
 pub mod move_plans;
 pub mod order_plans;
-pub mod plans;
+pub mod reference_plans;
+pub mod table_changes;
 pub mod trade_plans;
-pub mod trading;
+pub mod update_plans;

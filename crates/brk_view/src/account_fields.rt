@@ -108,7 +108,8 @@ fn party_texts(alloc: Global, account: &AccountStatus) -> Result<Vec<String>, Al
     Ok(texts)
 }
 
-fn status_head(alloc: Global, trade: &TradeRow) -> Result<Vec<String>, AllocError>
+// Returns the fields 1 to 5 of a trade.
+fn first_status_fields(alloc: Global, trade: &TradeRow) -> Result<Vec<String>, AllocError>
     ensures { IfOk result (λ texts. texts_of_record texts ≡ statuses.first_five_status_fields trade.now) }
 {
     let mut texts = Vec::new(alloc);
@@ -120,7 +121,8 @@ fn status_head(alloc: Global, trade: &TradeRow) -> Result<Vec<String>, AllocErro
     Ok(texts)
 }
 
-fn status_tail(
+// Appends the fields 6 to 10 of a trade.
+fn append_last_status_fields(
     alloc: Global,
     texts: &mut Vec<String>,
     status: &TradeStatus,
@@ -141,8 +143,8 @@ fn status_tail(
 fn status_texts(alloc: Global, status: &TradeStatus) -> Result<Vec<String>, AllocError>
     ensures { IfOk result (λ texts. texts_of_record texts ≡ statuses.trade_status_record status.now) }
 {
-    let mut texts = status_head(alloc, &status.trade)?;
-    status_tail(alloc, &mut texts, status)?;
+    let mut texts = first_status_fields(alloc, &status.trade)?;
+    append_last_status_fields(alloc, &mut texts, status)?;
     Ok(texts)
 }
 

@@ -1,4 +1,4 @@
-//! The records of a view, as texts.
+//! The records of any view as texts; those of submitted trades and estimates are formed here.
 
 ghost use Rattle.std.specs.Prelude.{◌≡◌, ◌∷◌, [], IfOk, OnErr, Err, map};
 ghost use Rattle.brk_trade_plans.specs.Replies.{estimate_from_model};

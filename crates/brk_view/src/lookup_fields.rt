@@ -28,7 +28,11 @@ fn trade_head(alloc: Global, trade: &TradeRow) -> Result<Vec<String>, AllocError
 }
 
 // Appends the fields 6 to 9.
-fn append_order(alloc: Global, texts: &mut Vec<String>, trade: &TradeRow) -> Result<(), AllocError>
+fn append_order_fields(
+    alloc: Global,
+    texts: &mut Vec<String>,
+    trade: &TradeRow,
+) -> Result<(), AllocError>
     ensures { OnOk result (texts_of_record texts.new ≡ texts_of_record texts.old ++ order_fields_of_trade (abstract_trade_row trade.now)) }
 {
     push_text(alloc, texts, trade.symbol.as_str())?;
@@ -59,7 +63,7 @@ fn looked_up_texts(alloc: Global, trade: &TradeRow) -> Result<Vec<String>, Alloc
     ensures { IfOk result (λ texts. texts_of_record texts ≡ model.trade_record (abstract_trade_row trade.now)) }
 {
     let mut texts = trade_head(alloc, trade)?;
-    append_order(alloc, &mut texts, trade)?;
+    append_order_fields(alloc, &mut texts, trade)?;
     append_costs(alloc, &mut texts, trade)?;
     append_flags(alloc, &mut texts, trade)?;
     Ok(texts)
@@ -87,7 +91,7 @@ fn cash_row_texts(alloc: Global, row: &CashRow) -> Result<Vec<String>, AllocErro
     Ok(texts)
 }
 
-fn moment_texts(alloc: Global, moment: StampedStatus) -> Result<Vec<String>, AllocError>
+fn stamped_status_texts(alloc: Global, moment: StampedStatus) -> Result<Vec<String>, AllocError>
     ensures { IfOk result (λ texts. texts_of_record texts ≡ history_status_record moment) }
 {
     let mut texts = Vec::new(alloc);
@@ -97,7 +101,7 @@ fn moment_texts(alloc: Global, moment: StampedStatus) -> Result<Vec<String>, All
     Ok(texts)
 }
 
-fn append_settled(
+fn append_settlement(
     alloc: Global,
     records: &mut Vec<Vec<String>>,
     row: Option<SettlementRow>,
@@ -127,7 +131,7 @@ fn append_cash_row(
     Ok(())
 }
 
-fn append_moments(
+fn append_stamped_statuses(
     alloc: Global,
     records: &mut Vec<Vec<String>>,
     history: &[StampedStatus],
@@ -135,7 +139,7 @@ fn append_moments(
     ensures { OnOk result (texts_of_records records.new ≡ texts_of_records records.old ++ map history_status_record history.now) }
 {
     for moment in history {
-        let texts = moment_texts(alloc, *moment)?;
+        let texts = stamped_status_texts(alloc, *moment)?;
         records.push(texts)?;
     }
     Ok(())
@@ -152,7 +156,7 @@ fn append_trade_record(
     Ok(())
 }
 
-fn append_found(
+fn append_looked_up_trade(
     alloc: Global,
     records: &mut Vec<Vec<String>>,
     found: &LookedUp,
@@ -160,9 +164,9 @@ fn append_found(
     ensures { OnOk result (texts_of_records records.new ≡ texts_of_records records.old ++ records_of_looked_up_trade found.now) }
 {
     append_trade_record(alloc, records, &found.trade)?;
-    append_settled(alloc, records, found.settlement)?;
+    append_settlement(alloc, records, found.settlement)?;
     append_cash_row(alloc, records, &found.cash)?;
-    append_moments(alloc, records, &found.history)?;
+    append_stamped_statuses(alloc, records, &found.history)?;
     Ok(())
 }
 
@@ -174,7 +178,7 @@ pub(crate) fn lookup_records(
 {
     let mut records = Vec::new(alloc);
     for found in trades {
-        append_found(alloc, &mut records, found)?;
+        append_looked_up_trade(alloc, &mut records, found)?;
     }
     Ok(records)
 }

@@ -34,7 +34,8 @@ fn append_lot_rows(
     Ok(())
 }
 
-fn touching_texts(alloc: Global, lots: &TouchedLots) -> Result<Vec<String>, AllocError>
+// Returns the first record of the view: the id of the trade that touched the lots.
+fn touching_trade_texts(alloc: Global, lots: &TouchedLots) -> Result<Vec<String>, AllocError>
     ensures { IfOk result (λ texts. texts_of_record texts ≡ decimal lots.now.trade ∷ []) }
 {
     let mut texts = Vec::new(alloc);
@@ -50,7 +51,7 @@ pub(crate) fn lot_records(
 {
     let mut records = Vec::new(alloc);
     if let Some(lots) = lots {
-        let found = touching_texts(alloc, lots)?;
+        let found = touching_trade_texts(alloc, lots)?;
         records.push(found)?;
         append_lot_rows(alloc, &mut records, &lots.changes)?;
     }

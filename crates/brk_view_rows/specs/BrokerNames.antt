@@ -14,8 +14,7 @@ contains_name names name = list_any (bytes_eq name) names
 abbrev pub names_with_new_name : List Text → Text → List Text
 names_with_new_name names name = if contains_name names name then names else names ++ name ∷ []
 
--- The parsed names, in order, each only where it first occurs; the refusal of parsing if there is
--- one.
+-- The parsed names, in order, each where it first occurs, or the refusal of parsing.
 abbrev pub distinct_parsed_names : ReadResult (List Text) → ReadResult (List Text)
 distinct_parsed_names (Ok names) = Ok (distinct_texts names)
 distinct_parsed_names (Err refusal) = Err refusal

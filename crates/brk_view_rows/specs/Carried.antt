@@ -25,11 +25,10 @@ abbrev pub last_fifty_trades_with_security : Tables → ℕ → List (TradeRow �
 last_fifty_trades_with_security t account = map (trade_row_with_security t) (take 50 (trade_rows_recent_first (trade_rows_of_account t account)))
 
 -- The view is of the kind of the query, and these rows of it equal, in order and in all columns,
--- those that the query selects from the tables `t`: for recent trades, the trades; for an account's
--- status, the trades with their securities; for looked-up trades, the trades with their
--- settlements, cash rows and statuses; for touched lots, the lot changes and the id of the trade.
--- For a query of the values of a customer's accounts, of submitted trades, of an estimate or of
--- volumes only the kind is stated. False if the view is of another kind.
+-- those that the query selects from the tables `t`: recent trades; an account's trades with their
+-- securities; looked-up trades with their settlements, cash rows and statuses; lot changes and the
+-- id of their trade. For the values of a customer's accounts, submitted trades, estimates and
+-- volumes only the kind is stated.
 abbrev pub HasRowsOfQuery : Query → View → Tables → Type 0
 HasRowsOfQuery (PositionOf customer) (view.Position accounts) t = Unit {0}
 HasRowsOfQuery (PositionOfTaxId tax_id) (view.Position accounts) t = Unit {0}

@@ -34,29 +34,24 @@ stamped_status_of_typed_history_row r = record { stamp = r.stamp; status = r.sta
 abbrev pub history_status_record : StampedStatus → List Text
 history_status_record m = codes "history" ∷ decimal m.stamp ∷ trade_status_code m.status ∷ []
 
--- The first five of the fifteen fields of the record of the looked-up trade `t`: the word `trade`,
--- its id, its stamp, and the codes of its status and type.
+-- The first five of fifteen fields of a looked-up trade: `trade`, id, stamp, status and type code.
 abbrev pub first_five_trade_fields : tables.TradeRow → List Text
 first_five_trade_fields t = codes "trade" ∷ decimal t.id ∷ decimal t.stamp ∷ trade_status_code t.status ∷ trade_type_code t.kind ∷ []
 
--- The fields 6 to 9 of the record of the looked-up trade `t`: its symbol, quantity, bid price and
--- executor.
+-- The fields 6 to 9 of the looked-up trade `t`: symbol, quantity, bid price and executor.
 abbrev pub order_fields_of_trade : tables.TradeRow → List Text
 order_fields_of_trade t = t.symbol ∷ decimal t.qty ∷ nonnegative_cents_text t.bid ∷ t.executor ∷ []
 
--- The fields 10 to 13 of the record of the looked-up trade `t`: its price, which is empty if the
--- trade has none, its charge, commission and tax.
+-- The fields 10 to 13 of the looked-up trade `t`: price, or empty, charge, commission and tax.
 abbrev pub price_and_cost_fields : tables.TradeRow → List Text
 price_and_cost_fields t =
     option_map_or nonnegative_cents_text t.price [] ∷ nonnegative_cents_text t.charge ∷ nonnegative_cents_text t.commission ∷ nonnegative_cents_text t.tax ∷ []
 
--- The last two of the fifteen fields of the record of the looked-up trade `t`: `cash` or, if it is
--- no cash trade, `margin`; and `lifo` if it closes the newest lots first, otherwise `fifo`.
+-- The last two of fifteen fields of a looked-up trade: `cash` or `margin`, and `lifo` or `fifo`.
 abbrev pub cash_and_lifo_fields : tables.TradeRow → List Text
 cash_and_lifo_fields t = cash_or_margin_word t.is_cash ∷ lifo_or_fifo_word t.is_lifo ∷ []
 
--- The records of the looked-up trade `l`, in this order: one for the trade, one for its settlement
--- and one for its cash row, if they exist, and one for each of its statuses, in their order in `l`.
+-- The records of the looked-up trade `l`: trade, settlement and cash row, if any, and its statuses.
 abbrev pub records_of_looked_up_trade : LookedUp → View
 records_of_looked_up_trade l =
     model.trade_record (abstract_trade_row l.trade)
@@ -71,9 +66,8 @@ pub record LookedUpRows : Type 0 where
   pub moves : List tables.CashRow
   pub history : List StampedStatus
 
--- The trade, the settlement and the cash row of the looked-up trade `l`, as rows of the model's
--- tables, and its statuses, in their order in `l`. The list of a settlement or a cash row that does
--- not exist is empty.
+-- The looked-up trade `l` as rows of the model's tables, its statuses in their order in `l`. The
+-- list of a settlement or a cash row that does not exist is empty.
 abbrev pub rows_of_looked_up_trade : LookedUp → LookedUpRows
 rows_of_looked_up_trade l = record {
   trade = abstract_trade_row l.trade;
@@ -96,10 +90,9 @@ table_rows_of_trade t row = record {
   history = map stamped_status_of_history_row (sort_by (λ a b. nat_lt a.stamp b.stamp) (history_rows_with_trade_id t row.id));
 }
 
--- `settlement`, `cash` and `history` are exactly the SETTLEMENT, the CASH_MOVE and the
--- TRADE_HISTORY rows of `trade` in the tables `t`, `history` in the sequence of the table. The
--- tables therefore have at most one settlement and at most one cash row of `trade`. `None` means
--- that there is none.
+-- `settlement`, `cash` and `history` are exactly the SETTLEMENT, CASH_MOVE and TRADE_HISTORY rows
+-- of `trade` in the tables `t`, `history` in table order. So there is at most one settlement and
+-- one cash row; `None`: there is none.
 pub record AreRowsOfTrade (t : Tables) (trade : TradeRow) (settlement : Option SettlementRow) (cash : Option CashRow) (history : List HistoryRow) : Type 0 where
   pub settlement_rows : option_to_list (option_map abstract_settlement_row settlement) ≡ filter (λ s. s.trade == trade.id) t.settlements
   pub cash_rows : option_to_list (option_map abstract_cash_row cash) ≡ filter (model.is_cash_row_of_trade trade.id) t.moves

@@ -22,27 +22,23 @@ use Rattle.brk_view_rows.specs.declared.view.View.TheVariants as view
 abbrev pub has_submitted_status : TradeRow → Bool
 has_submitted_status row = is_same_trade_status row.status Submitted
 
--- The record of the TRADE row `row`: its id, the code of its type, its symbol, quantity and bid
--- price.
+-- The record of the TRADE row `row`: id, type code, symbol, quantity and bid price.
 abbrev pub record_of_submitted_row : TradeRow → List Text
 record_of_submitted_row row = decimal row.id ∷ trade_type_code row.kind ∷ row.symbol ∷ decimal row.qty ∷ nonnegative_cents_text row.bid ∷ []
 
--- The record of the submitted trade `trade`: its id, the code of its type, its symbol, quantity and
--- bid price.
+-- The record of the submitted trade `trade`: id, type code, symbol, quantity and bid price.
 abbrev pub submitted_trade_record : SubmittedTrade → List Text
 submitted_trade_record trade = decimal trade.id ∷ trade_type_code trade.kind ∷ trade.symbol ∷ decimal trade.qty ∷ nonnegative_cents_text trade.bid ∷ []
 
--- The record of the estimate `e`, in seven fields: its price, buy value, sell value, tax,
--- commission, charge and assets.
+-- The record of the estimate `e`: price, buy and sell value, tax, commission, charge and assets.
 abbrev pub estimate_record : estimate.Estimate → List Text
 estimate_record e =
     nonnegative_cents_text e.price ∷ cents_text (pos e.buy_value) ∷ cents_text (pos e.sell_value) ∷ cents_text (pos e.tax) ∷ cents_text (pos e.commission)
     ∷ cents_text (pos e.charge)
     ∷ cents_text e.assets ∷ []
 
--- The records of a typed view, each a list of texts, as the kind of the view determines them, in
--- the order of the view's elements. The view of touched lots has no records if its content is
--- `None`.
+-- The records of a typed view, each a list of texts, in the order of the view's elements. Touched
+-- lots that are `None` have no records.
 abbrev pub records_of_view : View → model.View
 records_of_view (view.Position accounts) = map account_worth_record accounts.items
 records_of_view (view.Recent recent) = records_of_activity recent

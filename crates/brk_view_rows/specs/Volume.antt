@@ -11,8 +11,7 @@ use Rattle.brk_view_rows.specs.declared.volumes.BrokerVolume.{BrokerVolume}
 abbrev pub is_before_by_broker_name : BrokerVolume → BrokerVolume → Bool
 is_before_by_broker_name a b = is_text_less a.name b.name || (bytes_eq a.name b.name && nat_lt a.broker b.broker)
 
--- True if the broker `a` is before `b` when they are sorted by volume, descending, then by name,
--- then by id, both ascending.
+-- True if the broker `a` is before `b` by volume, descending, then by name, then by id.
 abbrev pub is_before_by_broker_volume : BrokerVolume → BrokerVolume → Bool
 is_before_by_broker_volume a b = int_lt b.volume a.volume || (not (int_lt a.volume b.volume) && is_before_by_broker_name a b)
 
@@ -29,7 +28,6 @@ request_value_at_bid r = r.qty * r.bid
 abbrev pub volume_of_broker_in_sector : Tables → Text → BrokerRow → BrokerVolume
 volume_of_broker_in_sector t sector b = record { broker = b.id; name = b.name; volume = pos (value_of_sector_requests_of_broker t sector b.id) }
 
--- True if the name of the broker `b` is one of `names`, and `b` has at least one pending request
--- for a security of `sector` in the tables `t`.
+-- True if the name of `b` is in `names`, and `b` has a pending request for a security of `sector`.
 abbrev pub has_name_and_pending_request : Tables → Text → List Text → BrokerRow → Bool
 has_name_and_pending_request t sector names b = list_any (bytes_eq b.name) names && nat_lt 0 (length (sector_requests_of_broker t sector b.id))

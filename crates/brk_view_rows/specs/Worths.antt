@@ -5,13 +5,11 @@ use Rattle.brk_model.specs.PositionView.{market_value_of_account_row}
 use Rattle.brk_model.specs.Tables.{Tables, AccountRow}
 use Rattle.brk_view_rows.specs.declared.worths.AccountWorth.{AccountWorth}
 
--- The id and the balance of the account `a`, and the market value of its holdings in the tables
--- `t`, both in cents.
+-- The id and balance of the account `a`, and the market value of its holdings, both in cents.
 abbrev pub worth_of_account : Tables → AccountRow → AccountWorth
 worth_of_account t a = record { account = a.id; balance = a.balance; assets = market_value_of_account_row t a }
 
--- True if the account `a` is before `b` when they are sorted by market value, then by id,
--- ascending.
+-- True if the account `a` is before `b` by market value, then by id.
 abbrev pub is_worth_before_by_market_value : AccountWorth → AccountWorth → Bool
 is_worth_before_by_market_value a b = int_lt a.assets b.assets || (not (int_lt b.assets a.assets) && nat_lt a.account b.account)
 

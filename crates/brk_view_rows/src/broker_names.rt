@@ -69,7 +69,7 @@ fn push_new_name(names: &mut Vec<Name>, name: Name) -> Result<(), AllocError>
     Ok(())
 }
 
-fn parse_distinct(alloc: Global, fields: &[&[u8]]) -> Planned<Vec<Name>, AllocError>
+fn parse_distinct_names(alloc: Global, fields: &[&[u8]]) -> Planned<Vec<Name>, AllocError>
     ensures read { IfOk result (λ read. ParsesAs names_of_vector read (distinct_parsed_names (read_each_text read_name (texts_of_fields fields.now)))) }
     ensures distinct { IfOk result (λ read. IfOk read (λ names. distinct_texts names.items ≡ names.items)) }
 {
@@ -90,7 +90,7 @@ fn parse_distinct(alloc: Global, fields: &[&[u8]]) -> Planned<Vec<Name>, AllocEr
 pub fn parse_brokers(alloc: Global, fields: &[&[u8]]) -> Planned<BrokerNames, AllocError>
     ensures read { IfOk result (λ read. ParsesAs (λ names. names) read (read_broker_names (texts_of_fields fields.now))) }
 {
-    match parse_distinct(alloc, fields)? {
+    match parse_distinct_names(alloc, fields)? {
         Ok(names) => Ok(BrokerNames::from_distinct(names)),
         Err(refusal) => Ok(Err(refusal)),
     }

@@ -96,14 +96,14 @@ pub fn create_looked_up_trade(
 
 /// Returns the trades sorted by the stamp of their current status, then by id, ascending.
 #[tactic(auto, using(crate::proofs::Shown::older_shown))]
-pub fn oldest_first(alloc: Global, trades: Vec<TradeRow>) -> Result<Vec<TradeRow>, AllocError>
+pub fn sort_oldest_first(alloc: Global, trades: Vec<TradeRow>) -> Result<Vec<TradeRow>, AllocError>
     ensures order { IfOk result (λ ordered. map abstract_trade_row ordered.items ≡ trade_rows_oldest_first (map abstract_trade_row trades.items)) }
 {
     sort_by_rank(alloc, trades)
 }
 
 /// Returns the view of trades that a query selects by their ids (Trade-Lookup). The caller passes
-/// the first 20 in the order of `oldest_first`.
+/// the first 20 in the order of `sort_oldest_first`.
 pub fn lookup_ids(trades: Vec<LookedUp>) -> View
     ensures records { records_of_view result ≡ flat_map records_of_looked_up_trade trades.items }
     ensures value { result ≡ views.Lookup trades }

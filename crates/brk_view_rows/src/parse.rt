@@ -1,3 +1,5 @@
+//! The parser of queries by the name of a view, and those of `submitted` and `estimate`.
+
 ghost use Rattle.std.specs.Prelude.{◌≡◌, IfOk, OnErr, Err};
 ghost use Rattle.brk_model.specs.Ask as model;
 ghost use Rattle.brk_model.specs.Ask.{read_no_arguments};

@@ -1,3 +1,5 @@
+//! The parsers of the queries about customers and accounts.
+
 ghost use Rattle.std.specs.Prelude.{IfOk};
 ghost use Rattle.brk_model.specs.Ask.{read_single_argument};
 ghost use Rattle.brk_model.specs.Forms.{read_id, read_tax_id};

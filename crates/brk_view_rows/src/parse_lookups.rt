@@ -1,3 +1,5 @@
+//! The parsers of the queries of looked-up trades, lots and volumes.
+
 ghost use Rattle.std.specs.Prelude.{IfOk};
 ghost use Rattle.brk_model.specs.Ask.{read_lots_query, read_value_and_stamps, read_volume_query};
 ghost use Rattle.brk_model.specs.Forms.{read_id, read_distinct_ids, read_symbol};

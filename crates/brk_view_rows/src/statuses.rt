@@ -1,4 +1,4 @@
-//! The parties of an account, its customer and its broker, and its last trades.
+//! The view `status`: the parties of an account, its customer and its broker, and its last trades.
 
 ghost use Rattle.std.specs.Prelude.{◌≡◌, ◌==◌, ◌∷◌, [], ℕ, filter, flat_map, map, take};
 ghost use Rattle.brk_model.specs.Joins.{trade_rows_recent_first, trade_rows_of_account};

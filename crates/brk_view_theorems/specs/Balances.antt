@@ -32,33 +32,28 @@ balance_at_stamp base stamp account = balance_of_account base.accounts (postings
 abbrev pub last_number_or_default : ℤ → List ℤ → ℤ
 last_number_or_default from zs = unwrap_or (last_or None zs) from
 
--- The amount, in cents, that the explanation of the completed trade `t` prints as "Balance before",
--- computed from the tables.
+-- The amount, in cents, that the explanation of the completed trade `t` prints as "Balance before".
 abbrev pub printed_balance_before_trade : Tables → Trade → ℤ
 printed_balance_before_trade tables t = balance_before_trade (order_details_of_trade tables (trade_row t)) (result_details_of_trade tables (trade_row t))
 
--- The amount, in cents, that the explanation of the completed trade `t` prints as "Balance after",
--- computed from the tables.
+-- The amount, in cents, that the explanation of the completed trade `t` prints as "Balance after".
 abbrev pub printed_balance_after_trade : Tables → Trade → ℤ
 printed_balance_after_trade tables t = balance_after_trade (order_details_of_trade tables (trade_row t)) (result_details_of_trade tables (trade_row t))
 
--- The last running balance, in cents, that the explanation of the account `a` prints, or the
--- opening balance if it prints no cash row.
+-- The last running balance that the explanation of `a` prints, in cents, or the opening balance.
 abbrev pub last_printed_balance : Tables → AccountRow → ℤ
 last_printed_balance tables a = last_number_or_default a.opening (running_totals (λ row. row.amount) a.opening (account_cash_rows_by_stamp tables a.id))
 
--- The printed balance before the completed trade `t` is the balance of the trade's account by the
--- postings of the base before the stamp of the trade's last status change, its completion. The
--- printed balance after the trade also counts the postings at this stamp.
+-- The printed balance before the completed trade `t` is the balance of its account by the postings
+-- before its completion; the printed balance after it also counts the postings at this stamp.
 pub record PrintedBalancesMatchBase (base : Base) (t : Trade) : Type 0 where
   pub before : printed_balance_before_trade (sheets base) t
       ≡ balance_of_account base.accounts (postings_before_stamp (last_status_stamp_of_trade t) (postings_of_base base)) t.account
   pub after : printed_balance_after_trade (sheets base) t ≡ balance_at_stamp base (last_status_stamp_of_trade t) t.account
 
--- After the result of the trade `id` from `base` at the clock reading `now` and the price `price`,
--- in cents, as if `base` accepted it, and after any run of calls that follows it, the printed
--- balance after the trade is the balance of its account in the base right after that result.
--- Vacuous if the base after that run has no trade `id`.
+-- After the result of the trade `id` from `base` at `now` and `price` cents, as if `base` accepted
+-- it, and after any later run of calls, the printed balance after the trade is the balance of its
+-- account right after that result. Vacuous if the base after that run has no trade `id`.
 abbrev pub RunsPreservePrintedBalanceAfterTrade : Base → ℕ → ℕ → ℕ → Type 0
 RunsPreservePrintedBalanceAfterTrade base now id price =
     (calls : List (ℕ × Call)) (outcomes : List Outcome) (later : Base) (u : Trade)
@@ -67,10 +62,9 @@ RunsPreservePrintedBalanceAfterTrade base now id price =
     ≡ balance_of_account (base_after_command base now (CompleteTrade id price)).accounts
     (postings_of_base (base_after_command base now (CompleteTrade id price))) u.account
 
--- The explanation of the account `a` lists exactly the cash rows of the account, sorted by stamp,
--- ascending. The last running balance that it prints, or the opening balance if the account has no
--- cash rows, is the balance in the row `a`, and this balance plus the market values of the
--- account's holdings equals the account's assets in the base.
+-- The explanation of the account `a` lists exactly its cash rows, sorted by stamp, ascending. The
+-- last running balance that it prints, or the opening balance without cash rows, is the balance in
+-- the row `a`, and with the market values of its holdings equals the account's assets in the base.
 pub record PrintedAccountMatchesBase (base : Base) (a : AccountRow) : Type 0 where
   pub posted : account_cash_rows_by_stamp (sheets base) a.id ≡ sorted_cash_rows_of_account (sheets base) a.id
   pub last : last_printed_balance (sheets base) a ≡ a.balance

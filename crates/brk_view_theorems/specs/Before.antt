@@ -9,8 +9,7 @@ use Rattle.brk_model.specs.Shares.{Share}
 abbrev pub trades_completed_before_stamp : Base → ℕ → List Trade
 trades_completed_before_stamp base stamp = filter (λ u. nat_lt (last_status_stamp_of_trade u) stamp) (completed_trades base)
 
--- The open shares, bought or sold short, of the trade's account in the trade's symbol, after the
--- trades that were completed before the stamp of the trade's last status change, in the sequence in
--- which they were opened.
+-- The open shares of the trade's account in its symbol after the trades that were completed before
+-- its last status change, in the sequence in which they were opened.
 abbrev pub shares_before_trade : Base → Trade → List Share
 shares_before_trade base t = shares_of_position (trades_completed_before_stamp base (last_status_stamp_of_trade t)) t.account t.symbol

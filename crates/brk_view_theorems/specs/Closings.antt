@@ -21,15 +21,13 @@ HoldsForAllButLast P (x ∷ y ∷ xs) = P x × HoldsForAllButLast P (y ∷ xs)
 abbrev pub ClosesWholeLot : Closing → Type 0
 ClosesWholeLot c = c.after ≡ pos 0
 
--- The facts about the result of the completed trade `t` that its explanation reads from the tables
--- of the base.
+-- The facts about the result of `t` that its explanation reads from the tables of the base.
 abbrev pub result_details_in_base : Base → Trade → ResultDetails
 result_details_in_base base t = result_details_of_trade (sheets base) (trade_row t)
 
--- The printed closings of the trade `t` match its deal on the shares before the trade in the buy
--- value, the sell value, the gain and the number of closed shares. The printed lot that the trade
--- opened has the shares that the deal opens. Closed and opened shares sum to the trade's quantity,
--- and all closed lots but the last, in the order of closing, are closed completely.
+-- The printed closings of the trade `t` match its deal on the shares before the trade in buy value,
+-- sell value, gain and number of shares; its own lot has the shares that the deal opens; closed and
+-- opened shares sum to its quantity; and all lots but the last are closed completely.
 pub record PrintedClosingsMatchDeal (base : Base) (t : Trade) : Type 0 where
   -- BUY and SELL are the buy value and the sell value of the deal, so Realised gain is its gain.
   pub bought : buy_value_of_closings (side_of_trade_type t.kind) (completion_price t) (result_details_in_base base t).closings

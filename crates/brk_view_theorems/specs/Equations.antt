@@ -12,16 +12,14 @@ use Rattle.brk_model_explain.specs.Trades.{tax_at_current_rates, signed_trade_va
 use Rattle.brk_view_theorems.specs.Before.{shares_before_trade}
 use Rattle.brk_view_theorems.specs.Closings.{result_details_in_base}
 
--- The facts about the order of the trade `t` that its explanation reads from the tables of the
--- base.
+-- The facts about the order of `t` that its explanation reads from the tables of the base.
 abbrev pub order_details_in_base : Base → Trade → OrderDetails
 order_details_in_base base t = order_details_of_trade (sheets base) (trade_row t)
 
--- The printed settlement of the trade `t` is its printed value less its charge, commission and
--- withheld tax, and equals its settlement amount. The cash moved is the settlement of a cash trade,
--- and 0 for a margin trade. The due day is the day of completion plus the printed days to settle,
--- and equals the due day that the model computes from the base. The tax and the commission at
--- current rates equal the values that the model computes from the base.
+-- The printed settlement of the trade `t` is its printed value less charge, commission and withheld
+-- tax, and equals its settlement amount. The cash moved is the settlement of a cash trade, and 0 on
+-- margin. The due day is the day of completion plus the printed days to settle; it and the tax and
+-- the commission at current rates equal the values that the model computes from the base.
 pub record PrintedSettlementMatchesBase (base : Base) (t : Trade) : Type 0 where
   -- Settlement is Value plus Charge, Commission and Tax withheld, which are printed below 0.
   pub sum : (result_details_in_base base t).settlement.amount

@@ -11,8 +11,7 @@ use Rattle.brk_view_theorems.specs.Closings.{result_details_in_base}
 use Rattle.brk_view_theorems.specs.Equations.{order_details_in_base}
 
 -- The explanation of the trade `t`, computed from the tables of the base, prints the figures of the
--- completion `c` that the reply to the result has: commission, tax, settlement amount, due day, buy
--- value, sell value and balance.
+-- completion `c` in the reply to the result.
 pub record PrintsReplyFigures (base : Base) (t : Trade) (c : Completion) : Type 0 where
   pub commission : (order_details_in_base base t).trade.commission ≡ c.commission
   pub tax : (order_details_in_base base t).trade.tax ≡ c.tax

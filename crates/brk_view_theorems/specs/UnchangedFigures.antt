@@ -9,11 +9,10 @@ use Rattle.brk_view_theorems.specs.Balances.{printed_balance_after_trade, printe
 use Rattle.brk_view_theorems.specs.Closings.{result_details_in_base}
 use Rattle.brk_view_theorems.specs.Equations.{order_details_in_base}
 
--- The explanation of the trade `u` of the base `later` prints the figures that the explanation of
--- the trade `t` of `base` prints: all columns of TRADE but the executor's name; the customer, the
--- broker, the tax status and the opening balance of its account; the status changes, the price, the
--- closings and the lot that the trade opened, the settlement amount and the due day, the cash
--- moved, the id of the cash row and the number of cash rows before it, and the balances.
+-- The explanation of the trade `u` of the base `later` prints the figures of the trade `t` of
+-- `base`: all columns of TRADE but the executor's name; customer, broker, tax status and opening
+-- balance of the account; status changes, price, closings, opened lot, settlement amount, due day,
+-- cash moved, id of the cash row, number of cash rows before it, and balances.
 pub record PrintsSameFigures (base later : Base) (t u : Trade) : Type 0 where
   -- All columns of the row of TRADE but the executor's name.
   pub row : record (trade_row u) { executor = [] } ≡ record (trade_row t) { executor = [] }

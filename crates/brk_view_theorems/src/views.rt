@@ -1,3 +1,5 @@
+//! Theorems: sorting the tables by key changes no view of accounts, and so the view of no query.
+
 ghost use Rattle.std.specs.Prelude.{◌≡◌, ℕ, Bool};
 ghost use Rattle.brk_model.specs.Base.{Base};
 ghost use Rattle.brk_model.specs.PositionView.{customer_position_view, recent_trades_view};

@@ -15,6 +15,7 @@
 //     short             the call moves half of its bytes
 //     ignore            the call does nothing, and reports success
 //     ignore-on         the same, and so does each later counted call
+//   FAULTS_AGAIN=K      what happens at the Nth counted call happens at the (N+K)th too
 //   FAULTS_ROOM=N       the file and its log may grow by N bytes; then their disk is full
 #define _GNU_SOURCE
 #include <errno.h>
@@ -42,7 +43,7 @@ struct __attribute__((packed)) entry {
 };
 
 static int is_ready, record_fd = -1, error_number = EIO, goes_on;
-static long calls, disturbed_at, torn_bytes, room = -1;
+static long calls, disturbed_at, again, torn_bytes, room = -1;
 static enum what what;
 static char file_path[4096], log_path[4104], folder_path[4096];
 static const char *counted = "wst1", *count_path;
@@ -72,6 +73,7 @@ static void begin(void) {
     if (getenv("FAULTS_CALLS")) counted = getenv("FAULTS_CALLS");
     count_path = getenv("FAULTS_COUNT");
     disturbed_at = number("FAULTS_AT", 0);
+    again = number("FAULTS_AGAIN", 0);
     torn_bytes = number("FAULTS_BYTES", 0);
     error_number = (int)number("FAULTS_ERROR", EIO);
     room = number("FAULTS_ROOM", -1);
@@ -119,7 +121,8 @@ static enum what disturbance(char call) {
     begin();
     if (!strchr(counted, call)) return NOTHING;
     calls++;
-    int is_now = disturbed_at && (goes_on ? calls >= disturbed_at : calls == disturbed_at);
+    long after = calls - disturbed_at;
+    int is_now = disturbed_at && (after == 0 || (after > 0 && (goes_on || after == again)));
     if (is_now && what == KILL) die();
     return is_now ? what : NOTHING;
 }

@@ -5,6 +5,7 @@ import pathlib
 import signal
 import socket
 import subprocess
+import sys
 import time
 
 import states
@@ -14,6 +15,7 @@ CALLS = "wsto"
 STREAMS = 400
 SECONDS = 120
 PATIENCE = 6
+STORE = (3, "brk: fault: store\n")
 
 
 def free_port():
@@ -56,10 +58,10 @@ class Server:
         self.process.send_signal(signal.SIGKILL)
         self.process.wait()
 
-    def reply(self, name, number, row):
-        """The status and the body of the reply to a row, or None if there is no whole one."""
-        body = json.dumps(row.split(",")).encode()
-        head = f"POST /rows/{name}/{number} HTTP/1.1\r\nConnection: close\r\nContent-Length: {len(body)}\r\n\r\n"
+    def post(self, target, texts):
+        """The status and the body of the reply to a request, or None if there is no whole one."""
+        body = json.dumps(texts).encode()
+        head = f"POST {target} HTTP/1.1\r\nConnection: close\r\nContent-Length: {len(body)}\r\n\r\n"
         stream = self.connected()
         if not stream:
             return None
@@ -71,7 +73,12 @@ class Server:
                     received += part
             except ConnectionError:
                 pass
+            except socket.timeout:
+                raise Wrong(f"{target}: no reply within {SECONDS} s") from None
         return reply_of(received)
+
+    def reply(self, name, number, row):
+        return self.post(f"/rows/{name}/{number}", row.split(","))
 
 
 def reply_of(received):
@@ -112,48 +119,72 @@ def try_kills(sweep, rng, job, most):
         more = job.settled(path, rows)
         return ["tried", "with one row more booked"] if more else ["tried"]
 
-    count = calls_of(program, job)
+    count = calls_of(program, job)[-1].number
     sweep.sweep("brk serve", [rng.randint(1, count) for _ in range(most)], one)
 
 
-def calls_of(program, job):
-    """How many calls a server makes for all rows of a job, up to its end by a signal that it does not see."""
-    path = program.path("served.db")
-    placed(path, job.before)
-    server = Server(program, path, calls="wsto", record=path + ".record")
-    expect(sent_until_killed(job, server) == len(job.rows), "an undisturbed server does not answer all rows")
-    server.kill()
-    return states.recorded(path + ".record")[-1].number
-
-
 class Client:
-    """Sends all rows, each until it is answered, as docs/formats/http.md says: it starts a server again that has ended, and ends one
-    that replies 503 again and again."""
+    """Sends all rows, each until it is answered, as docs/formats/http.md says, and starts a server again that has ended.
 
-    def __init__(self, program, job, path, **faults):
+    `most` calls of the server fail at most; None if the fault goes on. Each of them may cause one reply 503. After it the server has to
+    answer in the next stream, or to end with the fault and its line; one call alone ends it only before its first reply. While a fault
+    goes on, an open desk may reply 503 to each row. It has to answer queries then, and the client ends it after some streams."""
+
+    def __init__(self, program, job, path, most, **faults):
         self.program, self.job, self.path = program, job, path
-        self.server = Server(program, path, **faults)
         self.came = set()
+        self.start(most, **faults)
+
+    def start(self, most, **faults):
+        self.server = Server(self.program, self.path, **faults)
+        self.most, self.replies, self.failures = most, 0, 0
 
     def start_again(self, came):
-        self.server = Server(self.program, self.path)
         self.came.add(came)
+        self.start(0)
+
+    def ended(self, number):
+        """The server has ended: it has to be by the fault. It is started again."""
+        how = self.server.ended()
+        expect(how == STORE and self.most != 0, f"row {number}: the server ended: {how}")
+        expect(self.most != 1 or self.replies == 0, f"row {number}: one failed call ended the server after {self.replies} replies")
+        self.start_again("ended by the fault" if self.replies else "ended by the fault at its start")
+
+    def lasting(self, number):
+        """Rows get no other reply than 503: queries have to be answered. The server is ended, and started again."""
+        reply = self.server.post("/ask/submitted", [])
+        if reply is None:
+            self.ended(number)
+            return
+        expect(reply[0] == 200, f"row {number}: {PATIENCE} replies 503, and to a query {reply}")
+        self.server.kill()
+        self.start_again("replied 503 to rows as long as the fault lasted, and answered queries")
+
+    def failed(self, number, body, in_turn):
+        """The server has replied 503, so many times in turn."""
+        self.failures += 1
+        expect(body == {"error": "store"}, f"row {number}: 503 {body}")
+        expect(self.most is None or self.failures <= self.most, f"row {number}: {self.failures} replies 503, and {self.most} calls failed at most")
+        if in_turn == PATIENCE:
+            self.lasting(number)
 
     def answer(self, number, row):
-        for turn in range(1, 2 * PATIENCE):
+        """The reply to a row that is not 503."""
+        in_turn = 0
+        while True:
             reply = self.server.reply(self.job.name, number, row)
             if reply is None:
-                how = self.server.ended()
-                expect(how == (3, "brk: fault: store\n"), f"row {number}: the server ended: {how}")
-                self.start_again("ended by the fault")
-            elif reply[0] != 503:
-                return reply
-            elif turn == PATIENCE:
-                self.server.kill()
-                self.start_again("ended after 503 again and again")
-            else:
-                self.came.add("with a reply of 503")
-        raise Wrong(f"row {number}: no reply in {2 * PATIENCE} streams")
+                self.ended(number)
+                in_turn = 0
+                continue
+            self.replies += 1
+            if reply[0] != 503:
+                break
+            in_turn += 1
+            self.failed(number, reply[1], in_turn)
+        if in_turn and self.failures:
+            self.came.add("came back by itself")
+        return reply
 
     def send_all(self):
         for number, row in enumerate(self.job.rows, 1):
@@ -162,17 +193,39 @@ class Client:
             expect(status in (200, 409) and as_first([line_of(number, body)]) == [wanted], f"row {number}: {status} {body}, and not {wanted}")
 
 
-def try_faults(sweep, job, cases):
-    """Lets calls of a server fail: no row is lost or booked twice."""
+def calls_of(program, job, **faults):
+    """The calls of a server that answers all rows of a job, up to its end by a signal that it does not see. With `faults` one of them fails."""
+    path = program.path("served.db")
+    placed(path, job.before)
+    client = Client(program, job, path, 1 if faults else 0, calls=CALLS, record=path + ".record", **faults)
+    try:
+        client.send_all()
+    except Wrong as error:
+        sys.exit(f"{job.name}: served, with {faults or 'no fault'}: {error}")
+    finally:
+        client.server.kill()
+    return states.recorded(path + ".record")
+
+
+def calls_of_reopening(rng, program, job, error):
+    """The number of a sync whose failure closes the file of a server, and how many calls more the server makes then to answer all rows."""
+    calls = calls_of(program, job)
+    syncs = [call.number for call in calls if call.letter == "s"]
+    at = rng.choice(syncs[len(syncs) // 2 :])
+    return at, calls_of(program, job, at=at, what="fail", error=error)[-1].number - calls[-1].number
+
+
+def try_faults(sweep, title, job, cases):
+    """Lets calls of a server fail: it comes back or ends, and no row is lost or booked twice."""
 
     def one(case, path):
         placed(path, job.before)
-        client = Client(sweep.program, job, path, **case.faults())
+        client = Client(sweep.program, job, path, case.most, **case.faults())
         try:
             client.send_all()
         finally:
             client.server.kill()
         job.settled(path, len(job.rows))
-        return ["tried", *client.came]
+        return ["tried", *(client.came or ["without an effect"])]
 
-    sweep.sweep("brk serve", cases, one)
+    sweep.sweep(title, cases, one)

@@ -31,7 +31,8 @@ pub(crate) fn write_header<W: Write>(
     write_line(writer, period_line(alloc, from, to))
 }
 
-/// Returns the number of cash rows that have a line.
+/// Writes also the opening and the closing amount. Returns the number of cash rows that have a
+/// line.
 pub(crate) fn write_cash_part<W: Write, S: Alter>(
     alloc: Global,
     desk: &mut Desk<S>,

@@ -1,11 +1,12 @@
-//! The parts of a statement that are written row by row.
+//! The lines of the cash rows, with that of the opening amount, and those of the lots, written row
+//! by row while the desk walks; `parts` adds the closing amount and the totals.
 
 ghost use Rattle.std.specs.Prelude.{◌≤◌};
 ghost use Rattle.brk_report.specs.CashWalk.{WritesCashLines, WritesLinesOfCashWalk};
 ghost use Rattle.brk_report.specs.StatementOutput.{PreservesDesk, HoldsForStoredTables, WritesLotLines};
 ghost use Rattle.brk_store.specs.Walked.{cash_rows_in_span};
 
-use crate::statements::visitors::{CashLineWriter, CashProgress, LineWriter, ensure_opening};
+use crate::statements::visitors::{CashLineWriter, CashProgress, LineWriter, write_opening_once};
 use crate::walk_faults::fault_from_walk_error;
 use brk_desk::Desk;
 use brk_money::{Cents, Day, Id, Stamp, Wide};
@@ -45,8 +46,8 @@ fn walk_cash_lines<W: Write, S: Alter>(
     }
 }
 
-/// Returns the number of rows that have a line and the closing amount; no clause states
-/// `is_opened`.
+/// Writes the opening amount also if no row has a line. Returns the number of rows that have a line
+/// and the closing amount; no clause states `is_opened`.
 pub(crate) fn write_cash_lines<W: Write, S: Alter>(
     alloc: Global,
     desk: &mut Desk<S>,
@@ -70,7 +71,7 @@ pub(crate) fn write_cash_lines<W: Write, S: Alter>(
         opening,
         writer,
     )?;
-    ensure_opening(alloc, moved.is_opened, moved.total, writer)?;
+    write_opening_once(alloc, moved.is_opened, moved.total, writer)?;
     Ok(moved)
 }
 

@@ -53,7 +53,7 @@ fn is_before_stamp(item: &CashRow, first: Stamp) -> bool
     item.stamp.get() < first.get()
 }
 
-pub(crate) fn ensure_opening<W: Write>(
+pub(crate) fn write_opening_once<W: Write>(
     alloc: Global,
     is_written: bool,
     opening: Wide,
@@ -67,7 +67,7 @@ pub(crate) fn ensure_opening<W: Write>(
     write_line(writer, amount_line(alloc, "Opening", opening))
 }
 
-// The opening amount is the total before the row.
+// Before the first row, also writes the opening amount, which is the total before the row.
 fn write_cash_row<W: Write>(
     alloc: Global,
     moved: CashProgress,
@@ -77,7 +77,7 @@ fn write_cash_row<W: Write>(
     ensures { WritesLines (opening_line_unless_written moved.is_opened moved.total ++ cash_row_line (abstract_cash_row item.now)
         ∷ []) (W.contents writer.old) (W.contents writer.new) result }
 {
-    ensure_opening(alloc, moved.is_opened, moved.total, writer)?;
+    write_opening_once(alloc, moved.is_opened, moved.total, writer)?;
     write_line(writer, item.line(alloc))
 }
 

@@ -1,3 +1,5 @@
+//! The statement of an account: its checks, then all its lines, from the header to the counts.
+
 ghost use Rattle.std.specs.Prelude.{◌≤◌};
 ghost use Rattle.brk_report.specs.StatementParts.{all_statement_lines};
 ghost use Rattle.brk_report.specs.StatementOutput.{StatementPost, PreservesDesk, HoldsForStoredTables};
@@ -14,7 +16,7 @@ use std::io::Write;
 /// The cause of a failure to write a statement.
 pub type StatementFault = ReportFault;
 
-fn write_parts<W: Write, S: Alter>(
+fn write_statement_lines<W: Write, S: Alter>(
     alloc: Global,
     desk: &mut Desk<S>,
     account: Id,
@@ -62,6 +64,6 @@ pub fn statement<W: Write, S: Alter>(
         Ok(None) => return Err(ReportFault::Refused(Refusal::NoAccount)),
         Err(fault) => return Err(ReportFault::Desk(fault)),
     };
-    write_parts(alloc, desk, account, &head, from, to, writer)?;
+    write_statement_lines(alloc, desk, account, &head, from, to, writer)?;
     Ok(())
 }

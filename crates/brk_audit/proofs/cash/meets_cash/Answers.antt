@@ -22,7 +22,7 @@ returns-then-not-has_cash_move_table c =
     c.deref-then-not-has_cash_move_table-2.result.now (sym c.has_cash_move_table.ensures ∙ c.if-not-has_cash_move_table.true)
     (form_told (abstract_schema c.args.schema) c.args.sheets.now c.requires.form) c.requires.status terms
     c.deref-then-not-has_cash_move_table.ensures.value c.deref-then-not-has_cash_move_table-2.ensures.value in
-    ((λ h. law.0 (c.rows_fit_trades.ensures.0 h)), (λ h. c.rows_fit_trades.ensures.1 (law.1 h)))
+    ((λ h. law.0 (c.cash_transactions_match_trades.ensures.0 h)), (λ h. c.cash_transactions_match_trades.ensures.1 (law.1 h)))
 
 pub returns : goal.returns
 returns c =
@@ -43,13 +43,13 @@ returns c =
             no_others = none_left s.cash.items (sym s.cash.ok.0 ∙ eqb-true _ 0 (sym c.is_empty-no_others.ensures ∙ h.0));
             turn =
                 sym c.are_rows_numbered-in_turn.ensures ∙ h.1;
-            posted = sym left ∙ c.figures_fit-posted.ensures.0 h.2;
+            posted = sym left ∙ c.cash_moves_match_trades-posted.ensures.0 h.2;
           })),
       (λ k. let m = law.1 k in
           c.all_three.ensures.1 (
             c.is_empty-no_others.ensures ∙ eq-eqb _ 0 (s.cash.ok.0 ∙ ap length m.no_others),
             c.are_rows_numbered-in_turn.ensures
                 ∙ m.turn,
-            c.figures_fit-posted.ensures.1 (left ∙ m.posted),
+            c.cash_moves_match_trades-posted.ensures.1 (left ∙ m.posted),
           )),
     )

@@ -25,22 +25,22 @@ pub position_after-requires-clause-deals : goal.position_after-requires-clause-d
 position_after-requires-clause-deals c =
     let done = c.args.done.now in
     let b = c.loop-begin.begin in
-    let n = c.run_length.result in
+    let n = c.position_trade_count.result in
     let x = c.index-done-begin.result in
     let k : Stretch done b n x =
-    stretch done b n x c.loop-begin-test.true c.index-done-begin.is c.requires.order c.requires.apart c.run_length.ensures.same
-    c.run_length.ensures.next in
+    stretch done b n x c.loop-begin-test.true c.index-done-begin.is c.requires.order c.requires.apart c.position_trade_count.ensures.same
+    c.position_trade_count.ensures.next in
     subst AreDistinctAscendingDeals (sym (deals_are (take (b + 1 + n - b) (drop b done)) _ k.run)) k.deals
 
 pub loop-begin-preserved : goal.loop-begin-preserved
 loop-begin-preserved c =
     let done = c.args.done.now in
     let b = c.loop-begin.begin in
-    let n = c.run_length.result in
+    let n = c.position_trade_count.result in
     let x = c.index-done-begin.result in
     let k : Stretch done b n x =
-    stretch done b n x c.loop-begin-test.true c.index-done-begin.is c.requires.order c.requires.apart c.run_length.ensures.same
-    c.run_length.ensures.next in
+    stretch done b n x c.loop-begin-test.true c.index-done-begin.is c.requires.order c.requires.apart c.position_trade_count.ensures.same
+    c.position_trade_count.ensures.next in
     let run : List TradeRow = seen x ∷ map seen (take n (drop (b + 1) done)) in
     let held : List HoldingRow = map abstract_holding_row c.loop-begin.held.items in
     let rows : map (holding_row_in_position_of_trade (seen x)) (map abstract_lot c.lots.result.now) ≡ holding_rows_left_by_trades (seen x) run =
@@ -49,7 +49,7 @@ loop-begin-preserved c =
     let added : map abstract_holding_row c.append_lots.new.held.items ≡ held ++ holding_rows_left_by_trades (seen x) run =
     c.in_ok-append_lots.ensures ∙ ap (λ (ms : List HoldingRow). held ++ ms) rows in
     record {
-      within = omega (arith, c.run_length.ensures.within, length-take (length done - (b + 1)) (drop (b + 1) done), length-drop (b + 1) done, c.loop-begin-test.true);
+      within = omega (arith, c.position_trade_count.ensures.within, length-take (length done - (b + 1)) (drop (b + 1) done), length-drop (b + 1) done, c.loop-begin-test.true);
       left = λ more l.
           let next : AreLotsLeftByTrades (map seen (drop b done)) (holding_rows_left_by_trades (seen x) run ++ more) =
           subst (λ (rs : List TradeRow). AreLotsLeftByTrades rs (holding_rows_left_by_trades (seen x) run ++ more)) (sym k.is)

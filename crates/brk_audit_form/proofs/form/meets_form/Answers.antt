@@ -27,20 +27,20 @@ moves s = list_all (is_well_formed_cash_move_row (abstract_sheets s)) (map abstr
 abbrev owns : Sheets → Bool
 owns s = all_distinct (trade_ids_of_cash_rows (map abstract_cash_row s.moves.items))
 
-pub returns-then-not-passes_plain : goal.returns-then-not-passes_plain
+pub returns-then-not-passes_nonallocating_checks : goal.returns-then-not-passes_nonallocating_checks
 unfolding ConditionHolds
-returns-then-not-passes_plain c =
+returns-then-not-passes_nonallocating_checks c =
     let s = c.args.sheets.now in
     let schema = abstract_schema c.args.schema in
     told false (satisfies_form_condition schema (abstract_sheets s))
-    (sym (ap (λ b. b && own s && limits s && cash s && moves s && owns s) (sym c.passes_plain.ensures ∙ c.if-not-passes_plain.true)) ∙ form_told schema s)
+    (sym (ap (λ b. b && own s && limits s && cash s && moves s && owns s) (sym c.passes_nonallocating_checks.ensures ∙ c.if-not-passes_nonallocating_checks.true)) ∙ form_told schema s)
 
 pub returns-then-not-has_distinct_tax_ids : goal.returns-then-not-has_distinct_tax_ids
 unfolding ConditionHolds
 returns-then-not-has_distinct_tax_ids c =
     let s = c.args.sheets.now in
     let schema = abstract_schema c.args.schema in
-    let plain = sym c.passes_plain.ensures ∙ c.if-not-passes_plain.false in
+    let plain = sym c.passes_nonallocating_checks.ensures ∙ c.if-not-passes_nonallocating_checks.false in
     let first = sym (ap (λ l. has_distinct_tax_ids (map abstract_customer l)) c.deref.ensures.value) ∙ sym c.in_ok-has_distinct_tax_ids.ensures ∙ c.if-not-has_distinct_tax_ids.true in
     told false (satisfies_form_condition schema (abstract_sheets s)) (sym (λ i. plain i && first i && limits s && cash s && moves s && owns s) ∙ form_told schema s)
 
@@ -49,7 +49,7 @@ unfolding ConditionHolds
 returns-then-not-has_limits c =
     let s = c.args.sheets.now in
     let schema = abstract_schema c.args.schema in
-    let plain = sym c.passes_plain.ensures ∙ c.if-not-passes_plain.false in
+    let plain = sym c.passes_nonallocating_checks.ensures ∙ c.if-not-passes_nonallocating_checks.false in
     let first = sym (ap (λ l. has_distinct_tax_ids (map abstract_customer l)) c.deref.ensures.value) ∙ sym c.in_ok-has_distinct_tax_ids.ensures ∙ c.if-not-has_distinct_tax_ids.false in
     let second = sym c.in_ok-has_limits.ensures ∙ c.if-not-has_limits.true in
     told false (satisfies_form_condition schema (abstract_sheets s)) (sym (λ i. plain i && first i && second i && cash s && moves s && owns s) ∙ form_told schema s)
@@ -59,7 +59,7 @@ unfolding ConditionHolds
 returns-then-not-has_cash c =
     let s = c.args.sheets.now in
     let schema = abstract_schema c.args.schema in
-    let plain = sym c.passes_plain.ensures ∙ c.if-not-passes_plain.false in
+    let plain = sym c.passes_nonallocating_checks.ensures ∙ c.if-not-passes_nonallocating_checks.false in
     let first = sym (ap (λ l. has_distinct_tax_ids (map abstract_customer l)) c.deref.ensures.value) ∙ sym c.in_ok-has_distinct_tax_ids.ensures ∙ c.if-not-has_distinct_tax_ids.false in
     let second = sym c.in_ok-has_limits.ensures ∙ c.if-not-has_limits.false in
     let third = sym c.in_ok-has_cash.ensures ∙ c.if-not-has_cash.true in
@@ -70,7 +70,7 @@ unfolding ConditionHolds
 returns-then-not-has_moves c =
     let s = c.args.sheets.now in
     let schema = abstract_schema c.args.schema in
-    let plain = sym c.passes_plain.ensures ∙ c.if-not-passes_plain.false in
+    let plain = sym c.passes_nonallocating_checks.ensures ∙ c.if-not-passes_nonallocating_checks.false in
     let first = sym (ap (λ l. has_distinct_tax_ids (map abstract_customer l)) c.deref.ensures.value) ∙ sym c.in_ok-has_distinct_tax_ids.ensures ∙ c.if-not-has_distinct_tax_ids.false in
     let second = sym c.in_ok-has_limits.ensures ∙ c.if-not-has_limits.false in
     let third = sym c.in_ok-has_cash.ensures ∙ c.if-not-has_cash.false in
@@ -82,12 +82,12 @@ unfolding ConditionHolds
 returns c =
     let s = c.args.sheets.now in
     let schema = abstract_schema c.args.schema in
-    let plain = sym c.passes_plain.ensures ∙ c.if-not-passes_plain.false in
+    let plain = sym c.passes_nonallocating_checks.ensures ∙ c.if-not-passes_nonallocating_checks.false in
     let first = sym (ap (λ l. has_distinct_tax_ids (map abstract_customer l)) c.deref.ensures.value) ∙ sym c.in_ok-has_distinct_tax_ids.ensures ∙ c.if-not-has_distinct_tax_ids.false in
     let second = sym c.in_ok-has_limits.ensures ∙ c.if-not-has_limits.false in
     let third = sym c.in_ok-has_cash.ensures ∙ c.if-not-has_cash.false in
     let fourth = sym c.in_ok-has_moves.ensures ∙ c.if-not-has_moves.false in
     let same = ap (λ l. all_distinct (trade_ids_of_cash_rows (map abstract_cash_row l))) c.deref-2.ensures.value in
-    each_told c.trades_differ.result (satisfies_form_condition schema (abstract_sheets s))
-    (all_distinct (trade_ids_of_cash_rows (map abstract_cash_row c.deref-2.result.now))) c.trades_differ.ensures
+    each_told c.have_distinct_trades.result (satisfies_form_condition schema (abstract_sheets s))
+    (all_distinct (trade_ids_of_cash_rows (map abstract_cash_row c.deref-2.result.now))) c.have_distinct_trades.ensures
     (same ∙ sym (λ i. plain i && first i && second i && third i && fourth i && owns s) ∙ form_told schema s)

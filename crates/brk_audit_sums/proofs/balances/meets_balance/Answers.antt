@@ -31,7 +31,7 @@ returns c = λ schema.
     let posted : c.in_ok-postings.postings.items ≡ filter_map (λ r. cash_posting_of_trade_row (account_tax_status_in_terms terms) (abstract_trade_row r)) s.trades.items =
     c.in_ok-postings.ensures.all ∙ ap (filter_map (λ r. cash_posting_of_trade_row (account_tax_status_in_terms terms) (abstract_trade_row r))) c.deref-2.ensures.value in
     let moved : c.deref-4.result.now ≡ c.in_ok-postings.postings.items ++ filter_map (λ r. movement_posting_of_row (abstract_cash_row r)) s.moves.items =
-    c.deref-4.ensures.value ∙ c.in_ok-append_moves.ensures.all
+    c.deref-4.ensures.value ∙ c.in_ok-append_movement_postings.ensures.all
     ∙ ap (λ rows. c.in_ok-postings.postings.items ++ filter_map (λ r. movement_posting_of_row (abstract_cash_row r)) rows) c.deref-3.ensures.value in
     let trades : List (KeyedAmount ℕ) = filter_map (λ r. cash_posting_of_trade_row (account_tax_status_in_terms terms) (abstract_trade_row r)) s.trades.items in
     let trades_sum : (q : ℕ)

@@ -17,4 +17,4 @@ returns c =
     (added 44 stamp (take 3 (completion_fields n)) (due_day ∷ []) _ _
     (added 44 stamp [] (take 3 (completion_fields n)) _ _ c.in_ok-line.ensures c.in_ok-append_amounts.ensures) c.in_ok-append_day.ensures
     ∙ ap (λ (text : Text). join_with_byte 44 (stamp ∷ take 3 (completion_fields n) ++ text ∷ [])) (c.as_str.ensures.value ∙ c.in_ok-due_day.ensures))
-    c.in_ok-append_closing.ensures
+    c.in_ok-append_closing_with_balance.ensures

@@ -9,4 +9,4 @@ pub returns : goal.returns
 unfolding reply_fields
 returns c =
     added 44 (nonnegative_cents_text c.args.figures.now.price) [] (drop 1 (estimate_fields (abstract_estimate c.args.figures.now))) _ _
-    c.in_ok-line.ensures c.in_ok-append_after_price.ensures
+    c.in_ok-line.ensures c.in_ok-append_estimate_after_price.ensures

@@ -24,4 +24,4 @@ returns c =
     (other_text c.args.kind.now c.as_slice.result.now (codes "broker") c.eq.result c.eq.ensures c.as_slice.ensures c.if-eq.false)
     (other_text c.args.kind.now c.as_slice-2.result.now (codes "customer") c.eq-2.result c.eq-2.ensures c.as_slice-2.ensures c.if-eq-2.false)
     (other_text c.args.kind.now c.as_slice-3.result.now (codes "account") c.eq-3.result c.eq-3.ensures c.as_slice-3.ensures c.if-eq-3.false))
-    c.record_of_kind.ensures
+    c.parse_record_kinds.ensures

@@ -13,4 +13,4 @@ returns c =
     let o = abstract_order c.args.order.now in
     added 31 (codes "order") (take 5 (order_fields o)) (drop 5 (order_fields o)) _ _
     (added 31 (codes "order") (take 4 (order_fields o)) (option_map_or nonnegative_cents_text (price_of_order_type o.order_type) [] ∷ []) _ _ c.in_ok-row.ensures c.in_ok-append_price.ensures)
-    c.in_ok-append_rest.ensures
+    c.in_ok-append_order_after_price.ensures

@@ -7,7 +7,7 @@ use Rattle.brk_desk_commands.proofs.update_row.row_of_executor.Goals as goal
 pub loop-trade-preserved : goal.loop-trade-preserved
 loop-trade-preserved c =
     next_text (λ trade. 31 ∷ decimal trade) (codes "upname") _ _ c.args.trades.now c.loop-trade.trade-index c.trade-item.result
-    c.loop-trade-test.true c.trade-item.is c.loop-trade.invariant c.in_ok-append_named.ensures
+    c.loop-trade-test.true c.trade-item.is c.loop-trade.invariant c.in_ok-append_updated_trade.ensures
 
 pub returns : goal.returns
 returns c =

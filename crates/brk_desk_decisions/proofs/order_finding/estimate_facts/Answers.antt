@@ -18,7 +18,7 @@ returns-in_ok-found-in-Some g c =
     let order = c.args.order.now in
     let account : AccountRow = c.in-Some.account in
     let found = c.in_ok-found-in-Some.found in
-    read_with g.S.Store c.args.store.now c.account.new.self c.facts_for.new.store {H = CallFault} (Some account) found found
+    read_with g.S.Store c.args.store.now c.account.new.self c.estimate_facts_of_account.new.store {H = CallFault} (Some account) found found
     (λ o (t : Tables). option_map abstract_account_row o ≡ find (λ (r : tables.AccountRow). r.id == order.account) t.accounts)
     (λ found (t : Tables). EstimateFactsMatchIfAccountOfOrder t order account found)
     (λ found (t : Tables). EstimateFactsMatchTables t order found)
@@ -38,5 +38,5 @@ pub returns-in_err-found-in-Some : goal.returns-in_err-found-in-Some
 returns-in_err-found-in-Some g c =
     let old = c.args.store.now in
     let p = err_from_is_err_and c.from_residual-in_err-found-in-Some.result c.from_residual-in_err-found-in-Some.ensures.1 in
-    rw p.1 (failed_after g.S.Store old c.account.new.self c.facts_for.new.store _ p.0 _ _
+    rw p.1 (failed_after g.S.Store old c.account.new.self c.estimate_facts_of_account.new.store _ p.0 _ _
     (single_read_changes_nothing old c.account.new.self _ _ c.in_ok-account.ensures.read) c.in_err-found-in-Some.ensures)

@@ -12,16 +12,16 @@ pub returns : goal.returns
 returns g c =
     let old = c.args.store.now in
     let mid = c.facts_of_result.new.store in
-    let end = c.result_of_facts.new.store in
+    let end = c.plan_result_from_facts.new.store in
     let id = c.args.completion.now.trade in
     let price = c.args.completion.now.price in
     let last = c.in_ok-last.last in
     let found = c.in_ok-found.found in
-    decided_on g.S.Store old mid end found (ResultFactsAndLastStampMatch id last) (DecidesCommand c.args.now (CompleteTrade id price)) c.result_of_facts.result
+    decided_on g.S.Store old mid end found (ResultFactsAndLastStampMatch id last) (DecidesCommand c.args.now (CompleteTrade id price)) c.plan_result_from_facts.result
     (last_and_found g.S.Store old c.last_stamp.new.self mid id last found c.in_ok-last.ensures.read c.in_ok-found.ensures.read)
-    c.result_of_facts.ensures.store_unchanged
+    c.plan_result_from_facts.ensures.store_unchanged
     (λ clean. result_decided id price last c.args.now c.get-moment.ensures.high found c.in_ok-found.ensures.some_shares (HoldsRows g.S.Store mid)
-    c.result_of_facts.result (c.result_of_facts.ensures.planned clean))
+    c.plan_result_from_facts.result (c.plan_result_from_facts.ensures.planned clean))
 
 pub returns-in_err-found : goal.returns-in_err-found
 returns-in_err-found g c =

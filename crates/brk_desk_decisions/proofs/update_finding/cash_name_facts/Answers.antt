@@ -21,7 +21,7 @@ IsNameOf symbol name t = MatchOption name (is_none (security_row_with_symbol t s
 
 pub returns-in_default : goal.returns-in_default
 returns-in_default g c =
-    retold g.S.Store c.args.store.now c.symbol_name.new.store {V = Option Text} {X = Option TextUpdate} None None
+    retold g.S.Store c.args.store.now c.security_name.new.store {V = Option Text} {X = Option TextUpdate} None None
     (IsNameOf c.args.symbol.now)
     (λ found (t : Tables). UpdateFactsMatchTables t (update.CashNames c.args.symbol.now c.args.span) found)
     (λ t e. e)
@@ -31,7 +31,7 @@ pub returns : goal.returns
 returns g c =
     let span = c.args.span in
     let paid = c.in_ok-paid.paid in
-    read_with g.S.Store c.args.store.now c.symbol_name.new.store c.read_cash_names.new.store {X = Option TextUpdate} {H = CallFault}
+    read_with g.S.Store c.args.store.now c.security_name.new.store c.read_cash_names.new.store {X = Option TextUpdate} {H = CallFault}
     (Some c.in-Some.name) paid (Some (CashNames c.in-Some.name paid))
     (IsNameOf c.args.symbol.now)
     (λ paid (t : Tables). CashTextsMatchTables t (first_twenty_completed_cash_trade_rows_of_symbol c.args.symbol.now span.first span.last t) paid.items)
@@ -43,5 +43,5 @@ pub returns-in_err-paid : goal.returns-in_err-paid
 returns-in_err-paid g c =
     let old = c.args.store.now in
     let p = err_from_is_err_and c.from_residual-in_err-paid.result c.from_residual-in_err-paid.ensures.1 in
-    rw p.1 (failed_after g.S.Store old c.symbol_name.new.store c.read_cash_names.new.store _ p.0 _ _
-    (single_read_changes_nothing old c.symbol_name.new.store _ _ c.in_ok-name.ensures) c.in_err-paid.ensures)
+    rw p.1 (failed_after g.S.Store old c.security_name.new.store c.read_cash_names.new.store _ p.0 _ _
+    (single_read_changes_nothing old c.security_name.new.store _ _ c.in_ok-name.ensures) c.in_err-paid.ensures)

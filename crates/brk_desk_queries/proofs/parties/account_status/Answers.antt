@@ -17,7 +17,7 @@ returns g c =
     let customer = c.in_ok-customer.customer in
     let broker = c.in_ok-broker.broker in
     let found : AccountStatus = record { last_name = customer.last_name; first_name = customer.first_name; broker = broker; trades = c.args.trades } in
-    read_with g.S.Store c.args.store.now c.require_customer.new.store c.require_name.new.store {H = CallFault} customer broker found
+    read_with g.S.Store c.args.store.now c.require_customer.new.store c.require_broker_name.new.store {H = CallFault} customer broker found
     (λ customer (t : Tables). IsCustomerWithId t row.account.customer customer)
     (λ name (t : Tables). name ≡ broker_name_with_id t row.account.broker)
     (IsAccountStatusWithTrades (abstract_account_row row) c.args.trades)
@@ -28,5 +28,5 @@ pub returns-in_err-broker : goal.returns-in_err-broker
 returns-in_err-broker g c =
     let old = c.args.store.now in
     let p = err_from_is_err_and c.from_residual-in_err-broker.result c.from_residual-in_err-broker.ensures.1 in
-    rw p.1 (failed_after g.S.Store old c.require_customer.new.store c.require_name.new.store _ p.0 _ _
+    rw p.1 (failed_after g.S.Store old c.require_customer.new.store c.require_broker_name.new.store _ p.0 _ _
     (single_read_changes_nothing old c.require_customer.new.store _ _ c.in_ok-customer.ensures.read) c.in_err-broker.ensures)

@@ -36,12 +36,12 @@ returns g c =
     let trades = c.in_ok-trades.trades in
     let found = c.in_ok-found.found in
     let view = c.status.result in
-    read_with g.S.Store old c.trade_statuses.new.store c.account_status.new.store {X = Result View Refusal} {H = CallFault} (Some row) found (Ok view)
+    read_with g.S.Store old c.fifty_trades_with_securities.new.store c.account_status.new.store {X = Result View Refusal} {H = CallFault} (Some row) found (Ok view)
     (λ o (t : Tables). IsRowOf id o t × AreRecentTradesWithSecurities id trades.items t)
     (λ found. IsAccountStatusWithTrades (abstract_account_row row) trades found)
     (AnswersQueryAsModel (StatusOf id))
     (λ t k p. status_seen id (abstract_account_row row) trades found view c.status.ensures.value t k.0 k.1 p)
-    (read_with g.S.Store old c.account.new.self c.trade_statuses.new.store {X = Option AccountRow} {H = CallFault} (Some row) trades (Some row)
+    (read_with g.S.Store old c.account.new.self c.fifty_trades_with_securities.new.store {X = Option AccountRow} {H = CallFault} (Some row) trades (Some row)
     (IsRowOf id) (λ trades (t : Tables). AreRecentTradesWithSecurities id trades.items t) (λ o (t : Tables). IsRowOf id o t × AreRecentTradesWithSecurities id trades.items t)
     (λ t e w. (e, w)) (rw c.in-Some.is at c.in_ok-row.ensures.read) c.in_ok-trades.ensures)
     c.in_ok-found.ensures
@@ -50,13 +50,13 @@ pub returns-in_err-trades : goal.returns-in_err-trades
 returns-in_err-trades g c =
     let old = c.args.store.now in
     let p = err_from_is_err_and c.from_residual-in_err-trades.result c.from_residual-in_err-trades.ensures.1 in
-    rw p.1 (failed_after g.S.Store old c.account.new.self c.trade_statuses.new.store _ p.0 _ _
+    rw p.1 (failed_after g.S.Store old c.account.new.self c.fifty_trades_with_securities.new.store _ p.0 _ _
     (single_read_changes_nothing old c.account.new.self _ _ c.in_ok-row.ensures.read) c.in_err-trades.ensures)
 
 pub returns-in_err-found : goal.returns-in_err-found
 returns-in_err-found g c =
     let old = c.args.store.now in
     let p = err_from_is_err_and c.from_residual-in_err-found.result c.from_residual-in_err-found.ensures.1 in
-    rw p.1 (failed_after g.S.Store old c.trade_statuses.new.store c.account_status.new.store _ p.0 _ _
-    (unchanged_after g.S.Store old c.account.new.self c.trade_statuses.new.store _ _
+    rw p.1 (failed_after g.S.Store old c.fifty_trades_with_securities.new.store c.account_status.new.store _ p.0 _ _
+    (unchanged_after g.S.Store old c.account.new.self c.fifty_trades_with_securities.new.store _ _
     (single_read_changes_nothing old c.account.new.self _ _ c.in_ok-row.ensures.read) c.in_ok-trades.ensures) c.in_err-found.ensures)

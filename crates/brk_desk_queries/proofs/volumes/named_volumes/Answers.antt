@@ -37,13 +37,13 @@ loop-name-preserved g c =
     let i = c.loop-name.name-index in
     let name = c.name-item.result in
     let old = c.loop-name.found.items in
-    let new = c.append_volumes.new.found.items in
-    read_with g.S.Store c.args.store.now c.loop-name.store c.append_volumes.new.store {H = CallFault} tt tt tt
+    let new = c.append_volumes_of_name.new.found.items in
+    read_with g.S.Store c.args.store.now c.loop-name.store c.append_volumes_of_name.new.store {H = CallFault} tt tt tt
     (λ _. FirstNamed sector names requests old i)
     (λ _ (t : Tables). map abstract_request_row requests ≡ t.requests → new ≡ old ++ volumes_of_brokers_in_sector t sector (filter (λ (b : BrokerRow). bytes_eq b.name name) t.brokers))
     (λ _. FirstNamed sector names requests new (i + 1))
     (λ t p e. (p.0, name_more t sector names i name old new c.loop-name-test.true c.name-item.is p.1 (e p.0)))
-    c.loop-name.invariant (rw c.deref.ensures.value at c.in_ok-append_volumes.ensures)
+    c.loop-name.invariant (rw c.deref.ensures.value at c.in_ok-append_volumes_of_name.ensures)
 
 pub returns : goal.returns
 returns g c =
@@ -55,9 +55,9 @@ returns g c =
     (λ t p. p.1 ∙ ap (λ ns. map (volume.volume_of_broker_in_sector t sector) (flat_map (brokers_of_name_in_sector t sector) ns)) (take_all c.loop-name.name-index names c.loop-name-test.false))
     c.loop-name.invariant
 
-pub returns-in_err-append_volumes : goal.returns-in_err-append_volumes
-returns-in_err-append_volumes g c =
+pub returns-in_err-append_volumes_of_name : goal.returns-in_err-append_volumes_of_name
+returns-in_err-append_volumes_of_name g c =
     let old = c.args.store.now in
-    let p = err_from_is_err_and c.from_residual-in_err-append_volumes.result c.from_residual-in_err-append_volumes.ensures.1 in
-    rw p.1 (failed_after g.S.Store old c.loop-name.store c.append_volumes.new.store _ p.0 _ _
-    (single_read_changes_nothing old c.loop-name.store _ _ c.loop-name.invariant) c.in_err-append_volumes.ensures)
+    let p = err_from_is_err_and c.from_residual-in_err-append_volumes_of_name.result c.from_residual-in_err-append_volumes_of_name.ensures.1 in
+    rw p.1 (failed_after g.S.Store old c.loop-name.store c.append_volumes_of_name.new.store _ p.0 _ _
+    (single_read_changes_nothing old c.loop-name.store _ _ c.loop-name.invariant) c.in_err-append_volumes_of_name.ensures)

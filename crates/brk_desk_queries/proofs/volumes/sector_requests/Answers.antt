@@ -27,13 +27,13 @@ loop-row-preserved g c =
     let i = c.loop-row.row-index in
     let row = c.row-item.result in
     let old = c.loop-row.found.items in
-    let new = c.append_request.new.found.items in
-    reads_both g.S.Store c.args.store.now c.loop-row.store c.append_request.new.store {H = CallFault} tt tt tt
+    let new = c.append_sector_request.new.found.items in
+    reads_both g.S.Store c.args.store.now c.loop-row.store c.append_sector_request.new.store {H = CallFault} tt tt tt
     (λ _. FirstRequests sector broker rows old i)
     (λ _ (t : Tables). new ≡ requests_with_row_if_of_broker_in_sector t sector broker row old)
     (λ _. FirstRequests sector broker rows new (i + 1))
     (λ t p e. request_more t sector broker rows i row old new c.loop-row-test.true c.row-item.is p e)
-    c.loop-row.invariant c.in_ok-append_request.ensures
+    c.loop-row.invariant c.in_ok-append_sector_request.ensures
 
 pub returns : goal.returns
 returns g c =

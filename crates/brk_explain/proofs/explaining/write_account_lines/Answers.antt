@@ -93,9 +93,9 @@ returns-clause-written g c = λ clean t holds.
     let posted = c.in_ok-cash.ensures.written mid t holds in
     let kept = c.in_ok-lots.ensures.written clean t still in
     let shown = map abstract_priced_holding c.deref.result.now in
-    let written = text_written (holding_and_total_lines a shown c.in_ok-cash.cash c.in_ok-lots.lots) c.end_text.result
+    let written = text_written (holding_and_total_lines a shown c.in_ok-cash.cash c.in_ok-lots.lots) c.account_end_text.result
     (g.W.Write.contents c.write_open_lots.new.writer) (g.W.Write.contents c.write_lines-3.new.writer) c.write_lines-3.result
-    (bottom_first a shown c.in_ok-cash.cash c.in_ok-lots.lots) c.write_lines-3.ensures.written c.end_text.ensures in
+    (bottom_first a shown c.in_ok-cash.cash c.in_ok-lots.lots) c.write_lines-3.ensures.written c.account_end_text.ensures in
     let end = subst (λ all. WritesLines (holding_and_total_lines a (map abstract_priced_holding all) c.in_ok-cash.cash c.in_ok-lots.lots)
     (g.W.Write.contents c.write_open_lots.new.writer) (g.W.Write.contents c.write_lines-3.new.writer) c.write_lines-3.result) c.deref.ensures.value
     written in

@@ -37,8 +37,8 @@ pub returns-in_err-write_lines : goal.returns-in_err-write_lines
 returns-in_err-write_lines g c =
     let details = c.in-Ok-Ok.details in
     let lines = lines_of_holding_details details in
-    let wrote = text_written {R = Unit {0}} lines c.explained_holding.result _ (g.W.Write.contents c.write_lines.new.writer)
-    (Err c.in_err-write_lines.field-0.0) (holding_first details) c.in_err-write_lines.ensures.written c.explained_holding.ensures in
+    let wrote = text_written {R = Unit {0}} lines c.holding_explanation_text.result _ (g.W.Write.contents c.write_lines.new.writer)
+    (Err c.in_err-write_lines.field-0.0) (holding_first details) c.in_err-write_lines.ensures.written c.holding_explanation_text.ensures in
     let fails : FailsAsLines c.from_residual.result c.in_err-write_lines.field-0.0 = c.from_residual.ensures.1 in
     record {
       told = record {
@@ -57,8 +57,8 @@ pub returns : goal.returns
 returns g c =
     let details = c.in-Ok-Ok.details in
     let lines = lines_of_holding_details details in
-    let wrote = text_written {R = Unit {0}} lines c.explained_holding.result _ (g.W.Write.contents c.write_lines.new.writer)
-    (Ok c.in_ok-write_lines.field-0) (holding_first details) c.in_ok-write_lines.ensures.written c.explained_holding.ensures in
+    let wrote = text_written {R = Unit {0}} lines c.holding_explanation_text.result _ (g.W.Write.contents c.write_lines.new.writer)
+    (Ok c.in_ok-write_lines.field-0) (holding_first details) c.in_ok-write_lines.ensures.written c.holding_explanation_text.ensures in
     record {
       told = record {
         written = λ clean t holds.

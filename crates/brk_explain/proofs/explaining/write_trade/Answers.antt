@@ -36,9 +36,9 @@ pub returns-in_err-write_lines : goal.returns-in_err-write_lines
 returns-in_err-write_lines g c =
     let details = c.in-Ok-Some.details in
     let lines = trade_explanation_lines (abstract_trade_details details) in
-    let wrote = text_written {R = Unit {0}} lines c.explained_trade.result _ (g.W.Write.contents c.write_lines.new.writer)
+    let wrote = text_written {R = Unit {0}} lines c.trade_explanation_text.result _ (g.W.Write.contents c.write_lines.new.writer)
     (Err c.in_err-write_lines.field-0.0) (trade_first (abstract_trade_details details)) c.in_err-write_lines.ensures.written
-    c.explained_trade.ensures in
+    c.trade_explanation_text.ensures in
     let fails : FailsAsLines c.from_residual.result c.in_err-write_lines.field-0.0 = c.from_residual.ensures.1 in
     record {
       told = record {
@@ -56,9 +56,9 @@ pub returns : goal.returns
 returns g c =
     let details = c.in-Ok-Some.details in
     let lines = trade_explanation_lines (abstract_trade_details details) in
-    let wrote = text_written {R = Unit {0}} lines c.explained_trade.result _ (g.W.Write.contents c.write_lines.new.writer)
+    let wrote = text_written {R = Unit {0}} lines c.trade_explanation_text.result _ (g.W.Write.contents c.write_lines.new.writer)
     (Ok c.in_ok-write_lines.field-0) (trade_first (abstract_trade_details details)) c.in_ok-write_lines.ensures.written
-    c.explained_trade.ensures in
+    c.trade_explanation_text.ensures in
     record {
       told = record {
         written = λ clean t holds.

@@ -52,12 +52,12 @@ returns g c =
     let security = c.in-Some-2.security in
     let held = c.in_ok-held.held in
     let now = c.in_ok-now.now in
-    read_with g.S.Store old c.held_trades.new.store c.quantity_now.new.store {H = CallFault} held now (Ok c.holding_details_of.result)
+    read_with g.S.Store old c.read_holding_trades.new.store c.read_quantity_with_price.new.store {H = CallFault} held now (Ok c.holding_details_of.result)
     (λ held (t : Tables). AreParties account symbol row security t × AreTradesAndLotsOfHolding t account symbol held)
     (λ now (t : Tables). AreQuantityAndPrice t account symbol now)
     (AreDetailsOfHolding account symbol)
     (λ t k e. subst (λ (s : HoldingDetails). AreDetailsOfHolding account symbol (Ok s) t) (sym c.holding_details_of.ensures) (sym k.0.0, sym k.0.1, k.1.0, k.1.1, e.0, e.1))
-    (read_with g.S.Store old c.security.new.self c.held_trades.new.store {H = CallFault} (Some security) held held
+    (read_with g.S.Store old c.security.new.self c.read_holding_trades.new.store {H = CallFault} (Some security) held held
     (λ o (t : Tables). AreParties account symbol row security t) (λ held (t : Tables). AreTradesAndLotsOfHolding t account symbol held)
     (λ held (t : Tables). AreParties account symbol row security t × AreTradesAndLotsOfHolding t account symbol held)
     (λ t p k. (p, k))
@@ -78,11 +78,11 @@ returns-in_err-now g c =
     let held = c.in_ok-held.held in
     let p = err_from_is_err_and c.from_residual-in_err-now.result c.from_residual-in_err-now.ensures.1 in
     rw p.1
-    (read_failed g.S.Store old c.held_trades.new.store c.quantity_now.new.store held _ p.0
+    (read_failed g.S.Store old c.read_holding_trades.new.store c.read_quantity_with_price.new.store held _ p.0
     (λ held (t : Tables). AreParties account symbol row security t × AreTradesAndLotsOfHolding t account symbol held)
     (λ now (t : Tables). AreQuantityAndPrice t account symbol now)
     (AreDetailsOfHolding account symbol)
-    (read_with g.S.Store old c.security.new.self c.held_trades.new.store {H = CallFault} (Some security) held held
+    (read_with g.S.Store old c.security.new.self c.read_holding_trades.new.store {H = CallFault} (Some security) held held
     (λ o (t : Tables). AreParties account symbol row security t) (λ held (t : Tables). AreTradesAndLotsOfHolding t account symbol held)
     (λ held (t : Tables). AreParties account symbol row security t × AreTradesAndLotsOfHolding t account symbol held)
     (λ t p k. (p, k))
@@ -106,7 +106,7 @@ returns-in_err-held g c =
     let old = c.args.store.now in
     let mid = c.account.new.self in
     let late = c.security.new.self in
-    let end = c.held_trades.new.store in
+    let end = c.read_holding_trades.new.store in
     let p = err_from_is_err_and c.from_residual-in_err-held.result c.from_residual-in_err-held.ensures.1 in
     rw p.1
     (none_read g.S.Store old end p.0 _

@@ -13,7 +13,7 @@ returns g c =
     let lot = c.args.lot in
     let all = c.in_ok-all.all in
     let told : OpeningAndLaterChanges = record { opening = all.opening; changes_by_others = c.in_ok-changes_by_others.changes_by_others } in
-    retold g.S.Store c.args.store.now c.read_unsorted.new.store all told
+    retold g.S.Store c.args.store.now c.read_changes_in_id_order.new.store all told
     (λ all (t : Tables). AreLotChangesByTradeId t lot all) (λ all (t : Tables). AreLotChangesByCompletion t lot all)
     (λ t k. (k.0, c.in_ok-changes_by_others.ensures ∙ ap (sort_by_key (λ (x : LotChange). x.stamp)) k.1 ∙ turn_known t lot))
     c.in_ok-all.ensures

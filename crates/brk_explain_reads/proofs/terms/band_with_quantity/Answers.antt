@@ -16,8 +16,8 @@ loop-band-init c = first_last (Has c.args.qty) (map abstract_band c.args.bands.i
 pub loop-band-preserved : goal.loop-band-preserved
 loop-band-preserved c =
     first_before abstract_band (Has c.args.qty) c.loop-band.rest.items c.pop.new.self.items c.in-Some.band (option_map abstract_band c.loop-band.found)
-    (option_map abstract_band c.fitting_band-found.result) _
-    c.in-Some.ensures.items c.loop-band.invariant c.fitting_band-found.ensures
+    (option_map abstract_band c.prefer_band_with_quantity-found.result) _
+    c.in-Some.ensures.items c.loop-band.invariant c.prefer_band_with_quantity-found.ensures
 
 none_left : (rest : List ref.Band) → length rest ≡ 0 → rest ≡ []
 none_left [] e = refl

@@ -28,7 +28,7 @@ returns-then-not-is_completed g c =
     let row = c.in-Some.row in
     let order = c.in_ok-order.order in
     let details : TradeDetails = record { order = order; result = None } in
-    read_with g.S.Store c.args.store.now c.trade.new.self c.order_of_trade.new.store {H = CallFault} (Some row) order (Some details)
+    read_with g.S.Store c.args.store.now c.trade.new.self c.read_order_details.new.store {H = CallFault} (Some row) order (Some details)
     (IsRowOf c.args.trade) (λ order (t : Tables). IsOrderOfTrade row order t) (AreDetailsOfTrade c.args.trade)
     (λ t e k. (abstract_trade_row row, sym e, details_ordered t row order k (sym c.is_completed.ensures ∙ c.if-not-is_completed.true)))
     (rw c.in-Some.is at c.in_ok-row.ensures.read) c.in_ok-order.ensures
@@ -40,12 +40,12 @@ returns g c =
     let order = c.in_ok-order.order in
     let outcome = c.in_ok-outcome.outcome in
     let details : TradeDetails = record { order = order; result = Some outcome } in
-    read_with g.S.Store old c.order_of_trade.new.store c.result_of_trade.new.store {H = CallFault} order outcome (Some details)
+    read_with g.S.Store old c.read_order_details.new.store c.read_result_details.new.store {H = CallFault} order outcome (Some details)
     (λ order (t : Tables). (Some (abstract_trade_row row) ≡ find (λ (r : TradeRow). r.id == c.args.trade) t.trades) × IsOrderOfTrade row order t)
     (λ details (t : Tables). IsResultOfOrder order details t)
     (AreDetailsOfTrade c.args.trade)
     (λ t k come. (abstract_trade_row row, sym k.0, details_completed t row order outcome k.1 (sym c.is_completed.ensures ∙ c.if-not-is_completed.false) come))
-    (read_with g.S.Store old c.trade.new.self c.order_of_trade.new.store {H = CallFault} (Some row) order order
+    (read_with g.S.Store old c.trade.new.self c.read_order_details.new.store {H = CallFault} (Some row) order order
     (IsRowOf c.args.trade) (λ order (t : Tables). IsOrderOfTrade row order t)
     (λ order (t : Tables). (Some (abstract_trade_row row) ≡ find (λ (r : TradeRow). r.id == c.args.trade) t.trades) × IsOrderOfTrade row order t)
     (λ t e k. (e, k)) (rw c.in-Some.is at c.in_ok-row.ensures.read) c.in_ok-order.ensures)
@@ -58,11 +58,11 @@ returns-in_err-outcome g c =
     let order = c.in_ok-order.order in
     let p = err_from_is_err_and c.from_residual-in_err-outcome.result c.from_residual-in_err-outcome.ensures.1 in
     rw p.1
-    (read_failed g.S.Store old c.order_of_trade.new.store c.result_of_trade.new.store order _ p.0
+    (read_failed g.S.Store old c.read_order_details.new.store c.read_result_details.new.store order _ p.0
     (λ order (t : Tables). (Some (abstract_trade_row row) ≡ find (λ (r : TradeRow). r.id == c.args.trade) t.trades) × IsOrderOfTrade row order t)
     (λ details (t : Tables). IsResultOfOrder order details t)
     (AreDetailsOfTrade c.args.trade)
-    (read_with g.S.Store old c.trade.new.self c.order_of_trade.new.store {H = CallFault} (Some row) order order
+    (read_with g.S.Store old c.trade.new.self c.read_order_details.new.store {H = CallFault} (Some row) order order
     (IsRowOf c.args.trade) (λ order (t : Tables). IsOrderOfTrade row order t)
     (λ order (t : Tables). (Some (abstract_trade_row row) ≡ find (λ (r : TradeRow). r.id == c.args.trade) t.trades) × IsOrderOfTrade row order t)
     (λ t e k. (e, k)) (rw c.in-Some.is at c.in_ok-row.ensures.read) c.in_ok-order.ensures)
@@ -72,6 +72,6 @@ pub returns-in_err-order : goal.returns-in_err-order
 returns-in_err-order g c =
     let old = c.args.store.now in
     let mid = c.trade.new.self in
-    let end = c.order_of_trade.new.store in
+    let end = c.read_order_details.new.store in
     let p = err_from_is_err_and c.from_residual-in_err-order.result c.from_residual-in_err-order.ensures.1 in
     rw p.1 (none_read g.S.Store old end p.0 _ (both_change_nothing g.S.Store old mid end _ _ _ _ c.in_ok-row.ensures.read c.in_err-order.ensures))

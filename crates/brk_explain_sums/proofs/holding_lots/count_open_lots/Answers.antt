@@ -16,7 +16,7 @@ loop-lot-preserved c =
     let i = c.loop-lot.lot-index in
     let lot = c.lot-item.result in
     let same : to_z w64 (of_z w64 c.remaining_quantity.result) ≡ c.remaining_quantity.result = search rules in
-    let one : c.open_lot_count.result ≡ one_for (remaining_quantity (abstract_lot_details lot)) = c.open_lot_count.ensures ∙ ap one_for (same ∙ c.remaining_quantity.ensures) in
+    let one : c.count_as_open.result ≡ one_for (remaining_quantity (abstract_lot_details lot)) = c.count_as_open.ensures ∙ ap one_for (same ∙ c.remaining_quantity.ensures) in
     c.in_ok-count.ensures ∙ (λ k. c.loop-lot.invariant k + one k)
     ∙ sym (counted_more (λ (l : LotDetails). not (is_zero (remaining_quantity l))) (map abstract_lot_details (take i lots)) (abstract_lot_details lot))
     ∙ ap (λ ls. length (lots_not_fully_closed ls)) (sym (map_one_more abstract_lot_details lots i lot c.lot-item.is c.loop-lot-test.true))

@@ -35,14 +35,14 @@ returns c =
     let trades : length done ≡ length us = rw length-map refl in
     let all : length lots ≡ length ls = rw length-map refl in
     let o = c.args.out.now.items in
-    let x1 = c.put_trading.new.out.items in
+    let x1 = c.put_trade_totals.new.out.items in
     let a1 = text_of_lines (purchase_sale_gain_and_cost_lines c.in_ok-bought.bought c.in_ok-sold.sold c.in_ok-gain.gain c.in_ok-cost.cost) in
     let x2 = c.put_worth.new.out.items in
     let a2 = text_of_lines (holding_value_lines shares price c.in_ok-cost.cost) in
-    let x3 = c.put_lot_counts.new.out.items in
+    let x3 = c.put_holding_counts.new.out.items in
     let a3 = line_with_line_feed (holding_counts_line (length done) (length lots) c.in_ok-open_lots.open_lots c.in_ok-changes.changes) in
-    more o a1 (a2 ++ (a3 ++ [])) x1 x3 c.in_ok-put_trading.ensures
-    (more x1 a2 (a3 ++ []) x2 x3 c.in_ok-put_worth.ensures (last x2 a3 x3 c.in_ok-put_lot_counts.ensures))
+    more o a1 (a2 ++ (a3 ++ [])) x1 x3 c.in_ok-put_trade_totals.ensures
+    (more x1 a2 (a3 ++ []) x2 x3 c.in_ok-put_worth.ensures (last x2 a3 x3 c.in_ok-put_holding_counts.ensures))
     ∙ (λ i.
     o
     ++ (text_of_lines (purchase_sale_gain_and_cost_lines (bought i) (sold i) (gain i) (cost i))

@@ -5,5 +5,5 @@ pub returns-in-Row : goal.returns-in-Row
 returns-in-Row g c = rw c.in-Row.is (
   c.now-now.result ∷ [],
   (c.now-now.new.self, c.now-now.ensures, refl),
-  (c.now-now.result, c.row_response.ensures.0, c.row_response.ensures.1, refl, c.row_response.ensures.2),
+  (c.now-now.result, c.execute_command.ensures.0, c.execute_command.ensures.1, refl, c.execute_command.ensures.2),
 )

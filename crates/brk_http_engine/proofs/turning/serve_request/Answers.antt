@@ -14,21 +14,21 @@ returns-in-Err-After-clause-err g c =
 pub returns-in-Err-write_all_bytes-clause-err : goal.returns-in-Err-write_all_bytes-clause-err
 returns-in-Err-write_all_bytes-clause-err g c =
     let found = rw c.in-Whole.is at c.in-Ok.ensures.found in
-    let acted = rw c.deref.ensures.value at (c.in-Ok-draft_reply.ensures.ok (g.W.Write.contents c.args.writer.now) (g.W.Write.contents c.write_all_bytes-in-Whole.new.writer)) in
+    let acted = rw c.deref.ensures.value at (c.in-Ok-execute_request.ensures.ok (g.W.Write.contents c.args.writer.now) (g.W.Write.contents c.write_all_bytes-in-Whole.new.writer)) in
     let wrote = rw c.as_bytes-in-Whole.ensures.value at c.in-Err-write_all_bytes.ensures.err in
     request_failed g.D.Service.forms g.D.Service.acts g.C.Clock.gives c.args.done _ _ _ c.in-Whole.places _ _ _ _ found acted wrote
 
 pub returns-then-draft-clause-ok : goal.returns-then-draft-clause-ok
 returns-then-draft-clause-ok g c =
     let found = rw c.in-Whole.is at c.in-Ok.ensures.found in
-    let acted = rw c.deref.ensures.value at (c.in-Ok-draft_reply.ensures.ok (g.W.Write.contents c.args.writer.now) (g.W.Write.contents c.write_all_bytes-in-Whole.new.writer)) in
+    let acted = rw c.deref.ensures.value at (c.in-Ok-execute_request.ensures.ok (g.W.Write.contents c.args.writer.now) (g.W.Write.contents c.write_all_bytes-in-Whole.new.writer)) in
     let wrote = rw c.as_bytes-in-Whole.ensures.value at c.in-Ok-write_all_bytes-2.ensures.ok in
     request_closed g.D.Service.forms g.D.Service.acts g.C.Clock.gives c.args.done _ _ _ c.in-Whole.places _ _ _ _ found acted c.if-draft.true wrote None
 
 pub returns-clause-ok : goal.returns-clause-ok
 returns-clause-ok g c =
     let found = rw c.in-Whole.is at c.in-Ok.ensures.found in
-    let acted = rw c.deref.ensures.value at (c.in-Ok-draft_reply.ensures.ok (g.W.Write.contents c.args.writer.now) (g.W.Write.contents c.write_all_bytes-in-Whole.new.writer)) in
+    let acted = rw c.deref.ensures.value at (c.in-Ok-execute_request.ensures.ok (g.W.Write.contents c.args.writer.now) (g.W.Write.contents c.write_all_bytes-in-Whole.new.writer)) in
     let wrote = rw c.as_bytes-in-Whole.ensures.value at c.in-Ok-write_all_bytes-2.ensures.ok in
     request_open g.D.Service.forms g.D.Service.acts g.C.Clock.gives c.args.done _ _ _ c.in-Whole.places _ _ _ _ found acted c.if-draft.false wrote _ c.remove_front.ensures
 

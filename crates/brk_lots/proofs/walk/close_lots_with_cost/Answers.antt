@@ -38,18 +38,18 @@ loop-left-preserved g c =
     let left = c.loop-left.left in
     let before = c.loop-left.source in
     let after = c.next.new.self in
-    let v : c.from.result * c.from-in-loop-left.result ≡ c.shares_to_close-shares.result * lot.price = rw (c.from.ensures, c.from-in-loop-left.ensures, c.get.ensures.value) refl in
-    let b : c.shares_to_close-shares.result * lot.price ≤ c.shares_to_close-shares.result * greatest_price = mul-le-mul_left c.shares_to_close-shares.result c.get.ensures.high in
-    let s : c.shares_to_close-shares.result ≡ min left (unsigned_abs lot.qty) = omega arith in
+    let v : c.from.result * c.from-in-loop-left.result ≡ c.shares_to_close_in_lot-shares.result * lot.price = rw (c.from.ensures, c.from-in-loop-left.ensures, c.get.ensures.value) refl in
+    let b : c.shares_to_close_in_lot-shares.result * lot.price ≤ c.shares_to_close_in_lot-shares.result * greatest_price = mul-le-mul_left c.shares_to_close_in_lot-shares.result c.get.ensures.high in
+    let s : c.shares_to_close_in_lot-shares.result ≡ min left (unsigned_abs lot.qty) = omega arith in
     let i = c.loop-left.invariant in
     let touched : List Touch = i.taken.0 in
     let earlier = g.met.L.LotSource.faithful_before before after c.next.ensures.leads in
     record {
       leads = g.met.L.LotSource.transitive c.args.source.now before after i.leads c.next.ensures.leads;
       taken = (
-        touched ++ c.touch_closing.result ∷ [],
+        touched ++ c.closing_touch.result ∷ [],
         c.in_ok-add.ensures.added touched i.taken.1,
-        omega (arith, i.taken.2, c.next.ensures.asked, length-append touched (c.touch_closing.result ∷ [])),
+        omega (arith, i.taken.2, c.next.ensures.asked, length-append touched (c.closing_touch.result ∷ [])),
         λ told all h w.
             let was = i.taken.3 (earlier told) all h w in
             let m = (rw c.in-Some.is at c.in_ok-lot.ensures.given) told was.0 was.1 in
@@ -57,13 +57,13 @@ loop-left-preserved g c =
             let e : was.0 ≡ lot ∷ ls = m.1 in
             let walk : IsPositionInAnyOrder (lot ∷ ls) = subst IsPositionInAnyOrder e was.2 in
             let o : is_same_side (side_of_qty lot.qty) c.args.side ≡ false = search rules in
-            let n : closed_share_count c.args.side left (lot ∷ ls) ≡ c.shares_to_close-shares.result + closed_share_count c.args.side (left - c.shares_to_close-shares.result) ls =
+            let n : closed_share_count c.args.side left (lot ∷ ls) ≡ c.shares_to_close_in_lot-shares.result + closed_share_count c.args.side (left - c.shares_to_close_in_lot-shares.result) ls =
             rw s (met_more c.args.side left lot ls walk o) in
-            let t : touches_of_first_shares (closed_share_count c.args.side left (lot ∷ ls)) (lot ∷ ls) ≡ c.touch_closing.result
-            ∷ touches_of_first_shares (closed_share_count c.args.side (left - c.shares_to_close-shares.result) ls) ls =
-            rw (c.touch_closing.ensures, s) (touches_more c.args.side left lot ls walk o (omega arith)) in
-            let p : cost_of_first_shares (closed_share_count c.args.side left (lot ∷ ls)) (lot ∷ ls) ≡ c.shares_to_close-shares.result * lot.price
-            + cost_of_first_shares (closed_share_count c.args.side (left - c.shares_to_close-shares.result) ls) ls = rw s (paid_more c.args.side left lot ls walk o) in
+            let t : touches_of_first_shares (closed_share_count c.args.side left (lot ∷ ls)) (lot ∷ ls) ≡ c.closing_touch.result
+            ∷ touches_of_first_shares (closed_share_count c.args.side (left - c.shares_to_close_in_lot-shares.result) ls) ls =
+            rw (c.closing_touch.ensures, s) (touches_more c.args.side left lot ls walk o (omega arith)) in
+            let p : cost_of_first_shares (closed_share_count c.args.side left (lot ∷ ls)) (lot ∷ ls) ≡ c.shares_to_close_in_lot-shares.result * lot.price
+            + cost_of_first_shares (closed_share_count c.args.side (left - c.shares_to_close_in_lot-shares.result) ls) ls = rw s (paid_more c.args.side left lot ls walk o) in
             let il : left + closed_share_count c.args.side c.args.qty all ≡ c.args.qty + closed_share_count c.args.side left (lot ∷ ls) = rw e at was.3 in
             let it : touched ++ touches_of_first_shares (closed_share_count c.args.side left (lot ∷ ls)) (lot ∷ ls)
             ≡ touches_of_first_shares (closed_share_count c.args.side c.args.qty all) all = rw e at was.4 in
@@ -73,8 +73,8 @@ loop-left-preserved g c =
               m.2,
               walk.2,
               omega (arith, n, il),
-              append_assoc touched (c.touch_closing.result ∷ [])
-                  (touches_of_first_shares (closed_share_count c.args.side (left - c.shares_to_close-shares.result) ls) ls)
+              append_assoc touched (c.closing_touch.result ∷ [])
+                  (touches_of_first_shares (closed_share_count c.args.side (left - c.shares_to_close_in_lot-shares.result) ls) ls)
                   ∙ ap (λ (ts : List Touch). touched ++ ts) (sym t) ∙ it,
               rw v (omega (arith, ip, p)),
             ),

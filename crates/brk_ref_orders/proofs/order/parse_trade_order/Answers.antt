@@ -18,5 +18,5 @@ returns-in_default c =
 
 pub returns : goal.returns
 returns c =
-    subst (λ (told : List Text). IfOk c.order_of_fields.result (λ read. ParsesAs abstract_order read (read_order told)))
-    (ten_texts c.args.fields.now _ (omega (arith, c.in-len10.len_at_least, c.in-len10.len_below))) c.order_of_fields.ensures
+    subst (λ (told : List Text). IfOk c.parse_order_fields.result (λ read. ParsesAs abstract_order read (read_order told)))
+    (ten_texts c.args.fields.now _ (omega (arith, c.in-len10.len_at_least, c.in-len10.len_below))) c.parse_order_fields.ensures

@@ -11,7 +11,7 @@ use Rattle.brk_store_transactions.proofs.upgrading.audit_and_upgrade_database.Go
 pub returns-in-Fails-clause-adopted : goal.returns-in-Fails-clause-adopted
 returns-in-Fails-clause-adopted g c =
     subst (λ h. AdoptPost g.S.Store c.args.conn.now h (Err (Damaged c.in-Fails.condition))) (search rules)
-    (fails g.S.Store c.args.conn.now c.audit_by_own_schema.new.tx.conn.now c.begin_transaction-tx.ensures.is_committed c.in_ok-condition.field-0
+    (fails g.S.Store c.args.conn.now c.audit_by_database_schema.new.tx.conn.now c.begin_transaction-tx.ensures.is_committed c.in_ok-condition.field-0
     (rw c.begin_transaction-tx.ensures.begun at c.in_ok-condition.ensures.step) c.drop-tx-in-Fails.new.self.0 c.in-Fails.condition c.in-Fails.is
     c.drop-tx-in-Fails.ensures.survives c.drop-tx-in-Fails.ensures.undone)
 
@@ -19,7 +19,7 @@ pub returns-then-has_settle_rule_table-clause-adopted : goal.returns-then-has_se
 returns-then-has_settle_rule_table-clause-adopted g c =
     let rule : (abstract_schema c.in-Passes.schema).has_settle_rule_table ≡ true = sym c.has_settle_rule_table.ensures ∙ c.if-has_settle_rule_table.true in
     subst (λ h. AdoptPost g.S.Store c.args.conn.now h (Ok tt)) (search rules)
-    (passes g.S.Store c.args.conn.now c.audit_by_own_schema.new.tx.conn.now c.begin_transaction-tx.ensures.is_committed c.in_ok-condition.field-0
+    (passes g.S.Store c.args.conn.now c.audit_by_database_schema.new.tx.conn.now c.begin_transaction-tx.ensures.is_committed c.in_ok-condition.field-0
     (rw c.begin_transaction-tx.ensures.begun at c.in_ok-condition.ensures.step) c.drop-tx-then-has_settle_rule_table.new.self.0 c.in-Passes.schema
     c.in-Passes.is rule c.drop-tx-then-has_settle_rule_table.ensures.survives c.drop-tx-then-has_settle_rule_table.ensures.undone)
 
@@ -27,7 +27,7 @@ pub returns-in-Ok-clause-adopted : goal.returns-in-Ok-clause-adopted
 returns-in-Ok-clause-adopted g c =
     let older : (abstract_schema c.in-Passes.schema).has_settle_rule_table ≡ false = sym c.has_settle_rule_table.ensures ∙ c.if-has_settle_rule_table.false in
     subst (λ h. AdoptPost g.S.Store c.args.conn.now h (Ok tt)) (search rules)
-    (commits g.S.Store c.args.conn.now c.audit_by_own_schema.new.tx.conn.now c.begin_transaction-tx.ensures.is_committed c.in_ok-condition.field-0
+    (commits g.S.Store c.args.conn.now c.audit_by_database_schema.new.tx.conn.now c.begin_transaction-tx.ensures.is_committed c.in_ok-condition.field-0
     (rw c.begin_transaction-tx.ensures.begun at c.in_ok-condition.ensures.step) c.in-Passes.schema c.in-Passes.is older
     c.upgrade_tables.new.tx.conn.now c.in_ok-upgrade_tables.ensures.step c.commit.new.self.0 c.in-Ok.ensures.survives c.in-Ok.ensures.ok)
 
@@ -35,7 +35,7 @@ pub returns-in-Err-clause-adopted : goal.returns-in-Err-clause-adopted
 returns-in-Err-clause-adopted g c =
     let older : (abstract_schema c.in-Passes.schema).has_settle_rule_table ≡ false = sym c.has_settle_rule_table.ensures ∙ c.if-has_settle_rule_table.false in
     subst (λ h. AdoptPost g.S.Store c.args.conn.now h (Err Store)) (search rules)
-    (commits_none g.S.Store c.args.conn.now c.audit_by_own_schema.new.tx.conn.now c.begin_transaction-tx.ensures.is_committed c.in_ok-condition.field-0
+    (commits_none g.S.Store c.args.conn.now c.audit_by_database_schema.new.tx.conn.now c.begin_transaction-tx.ensures.is_committed c.in_ok-condition.field-0
     (rw c.begin_transaction-tx.ensures.begun at c.in_ok-condition.ensures.step) c.in-Passes.schema c.in-Passes.is older
     c.upgrade_tables.new.tx.conn.now c.in_ok-upgrade_tables.ensures.step c.commit.new.self.0 c.in-Err.ensures.survives c.in-Err.field-0 c.in-Err.ensures.err)
 
@@ -46,7 +46,7 @@ returns-in_err-upgrade_tables-clause-adopted g c =
     let p = err_from_is_err_and c.from_residual-in_err-upgrade_tables.result c.from_residual-in_err-upgrade_tables.ensures.1 in
     subst (λ h. AdoptPost g.S.Store c.args.conn.now h c.from_residual-in_err-upgrade_tables.result) (search rules)
     (subst (λ r. AdoptPost g.S.Store c.args.conn.now c.drop-tx-in_err-upgrade_tables.new.self.0 r) (sym (p.1 ∙ ap Err p.2))
-    (move_gives_up g.S.Store c.args.conn.now c.audit_by_own_schema.new.tx.conn.now c.begin_transaction-tx.ensures.is_committed c.in_ok-condition.field-0
+    (move_gives_up g.S.Store c.args.conn.now c.audit_by_database_schema.new.tx.conn.now c.begin_transaction-tx.ensures.is_committed c.in_ok-condition.field-0
     (rw c.begin_transaction-tx.ensures.begun at c.in_ok-condition.ensures.step) c.in-Passes.schema c.in-Passes.is older
     c.upgrade_tables.new.tx.conn.now c.drop-tx-in_err-upgrade_tables.new.self.0 fault c.in_err-upgrade_tables.ensures.step
     c.drop-tx-in_err-upgrade_tables.ensures.survives c.drop-tx-in_err-upgrade_tables.ensures.undone))

@@ -30,6 +30,6 @@ pub returns-clause-step : goal.returns-clause-step
 returns-clause-step g c =
     let old = state g.S.Store c.args.tx.now.conn.now in
     let new = state g.S.Store c.select_rows.new.tx.conn.now in
-    step_weaker old new c.start_in_rows.result _ _ (λ v looks. (looks.0, looks.1, λ t tree h. sym (day_shown v) ∙ ap first_day (looks.2 t tree h) ∙ day_back t.rule))
+    step_weaker old new c.one_day_start_in_rows.result _ _ (λ v looks. (looks.0, looks.1, λ t tree h. sym (day_shown v) ∙ ap first_day (looks.2 t tree h) ∙ day_back t.rule))
     (look_all desk_tables rule_cells rule_back rule_is_back (λ (r : RuleRow). r) RuleRows.statement [] old new c.in_ok-rows.rows (λ rows. rows.items) _ c.deref.ensures.value c.in_ok-rows.ensures.step
-    rule_rows c.start_in_rows.result c.start_in_rows.ensures.value (λ (t : Tables). rule_rows t.rule) (tells_rule old new _))
+    rule_rows c.one_day_start_in_rows.result c.one_day_start_in_rows.ensures.value (λ (t : Tables). rule_rows t.rule) (tells_rule old new _))

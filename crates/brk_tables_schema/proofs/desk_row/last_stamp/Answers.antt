@@ -23,7 +23,7 @@ pub returns-clause-step : goal.returns-clause-step
 returns-clause-step g c =
     let old = state g.S.Store c.args.tx.now.conn.now in
     let new = state g.S.Store c.select_rows.new.tx.conn.now in
-    step_weaker old new c.last_stamp_of_third.result _ _ (λ v looks. (looks.0, looks.1, λ t tree h. ap first_last (looks.2 t tree h)))
+    step_weaker old new c.last_stamp_in_third_schema.result _ _ (λ v looks. (looks.0, looks.1, λ t tree h. ap first_last (looks.2 t tree h)))
     (look_all desk_tables desk_row_cells desk_back desk_is_back (λ (r : DeskRow). r) DeskRows.statement [] old new c.in_ok-rows.rows (λ rows. rows.items) _
     c.deref.ensures.value c.in_ok-rows.ensures.step
-    (desk_rows third_schema) c.last_stamp_of_third.result c.last_stamp_of_third.ensures.value (λ (t : Tables). desk_rows third_schema t.last) (tells_last old new _))
+    (desk_rows third_schema) c.last_stamp_in_third_schema.result c.last_stamp_in_third_schema.ensures.value (λ (t : Tables). desk_rows third_schema t.last) (tells_last old new _))

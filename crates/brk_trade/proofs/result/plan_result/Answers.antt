@@ -15,13 +15,13 @@ use Rattle.brk_trade.proofs.Results.{first_after, first_refuses, refused_by_valu
 use Rattle.brk_trade.proofs.result.plan_result.Goals as goal
 use Rattle.brk_trade.proofs.result.plan_result.Goals.{in-Some-moved, in-None}
 
-pub returns-in-Err-checked_figures-clause-planned : goal.returns-in-Err-checked_figures-clause-planned
-returns-in-Err-checked_figures-clause-planned g c =
+pub returns-in-Err-check_after_lots-clause-planned : goal.returns-in-Err-check_after_lots-clause-planned
+returns-in-Err-check_after_lots-clause-planned g c =
     let found = c.in-Some.found.now in
     let closed = c.in_ok-closed.closed in
     let moved : c.match-moved.moved ≡ stamp_after c.args.last c.args.now = elim c.match-moved.branch [ in-Some-moved w ↦ search rules | in-None w ↦ search rules ] in
-    let told = rw moved at c.in-Err-checked_figures.ensures in
-    let refusal = c.in-Err-checked_figures.refusal in
+    let told = rw moved at c.in-Err-check_after_lots.ensures in
+    let refusal = c.in-Err-check_after_lots.refusal in
     let late : (ls : List Lot) (stamp : ℕ)
     → AreLotsBeforeTrade (AreLotsOfFaithfulSource (g.L.LotSource.reads_faithfully c.effect_of_trade_on_lots.new.source)
     (g.L.LotSource.remaining c.args.source.now)) found ls
@@ -36,8 +36,8 @@ returns-clause-planned g c =
     let found = c.in-Some.found.now in
     let price = c.args.price in
     let closed = c.in_ok-closed.closed in
-    let outcome = c.in-Ok-checked_figures.outcome in
-    let done = c.in-Ok-checked_figures.ensures in
+    let outcome = c.in-Ok-check_after_lots.outcome in
+    let done = c.in-Ok-check_after_lots.ensures in
     let moved : c.match-moved.moved ≡ stamp_after c.args.last c.args.now = elim c.match-moved.branch [ in-Some-moved w ↦ search rules | in-None w ↦ search rules ] in
     let at : c.match-moved.at ≡ stamp_or_clock_reading (stamp_after c.args.last c.args.now) c.args.now = elim c.match-moved.branch [ in-Some-moved w ↦ search rules | in-None w ↦ search rules ] in
     let stamped : stamp_after c.args.last c.args.now ≡ Some outcome.completed.stamp = sym moved ∙ done.1 in
@@ -68,8 +68,8 @@ returns-in-Err-clause-planned g c =
           (stamp_after c.args.last c.args.now) c.in-Err.refusal cause;
     })
 
-pub returns-in-Err-checked_figures-clause-asked : goal.returns-in-Err-checked_figures-clause-asked
-returns-in-Err-checked_figures-clause-asked g c =
+pub returns-in-Err-check_after_lots-clause-asked : goal.returns-in-Err-check_after_lots-clause-asked
+returns-in-Err-check_after_lots-clause-asked g c =
     let at : c.match-moved.at ≡ stamp_or_clock_reading (stamp_after c.args.last c.args.now) c.args.now = elim c.match-moved.branch [ in-Some-moved w ↦ search rules | in-None w ↦ search rules ] in
     rw (c.in-Some.is, ← at) c.effect_of_trade_on_lots.ensures.asked
 

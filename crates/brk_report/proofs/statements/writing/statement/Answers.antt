@@ -37,23 +37,23 @@ returns-in-Ok-None g c =
       };
     }
 
-pub write_parts-requires : goal.write_parts-requires
-write_parts-requires g c = omega (arith, ints, c.if-get.false, c.get.ensures.value, c.get-2.ensures.value)
+pub write_statement_lines-requires : goal.write_statement_lines-requires
+write_statement_lines-requires g c = omega (arith, ints, c.if-get.false, c.get.ensures.value, c.get-2.ensures.value)
 
-pub returns-in_err-write_parts : goal.returns-in_err-write_parts
-returns-in_err-write_parts g c =
+pub returns-in_err-write_statement_lines : goal.returns-in_err-write_statement_lines
+returns-in_err-write_statement_lines g c =
     let days = not_before c.args.to c.args.from (omega (arith, ints, c.if-get.false, c.get.ensures.value, c.get-2.ensures.value)) in
     let first = keeps_read g.S.Store _ _ c.head.result (IsStatementHeadOfAccount c.args.account) c.head.ensures.read in
-    let fails : FailsAsLines c.from_residual.result c.in_err-write_parts.field-0.0 = c.from_residual.ensures.1 in
+    let fails : FailsAsLines c.from_residual.result c.in_err-write_statement_lines.field-0.0 = c.from_residual.ensures.1 in
     record {
       stated = record {
         written = λ clean t holds.
-            let mid = clean_then g.S.Store c.head.new.self c.write_parts.new.desk c.in_err-write_parts.ensures.keeps clean in
+            let mid = clean_then g.S.Store c.head.new.self c.write_statement_lines.new.desk c.in_err-write_statement_lines.ensures.keeps clean in
             let is_head = (rw (c.in-Ok-Some.is, c.in-Ok-Some.field-0-is) at (c.head.ensures.read.answered mid)) t holds in
             reported (WritesStatement t c.args.account c.args.from c.args.to _ _) _ _ fails
-            (states_fault t c.args.account c.in-Ok-Some.head c.args.from c.args.to days is_head _ _ _ (c.in_err-write_parts.ensures.written clean t (first.same_rows t holds)));
+            (states_fault t c.args.account c.in-Ok-Some.head c.args.from c.args.to days is_head _ _ _ (c.in_err-write_statement_lines.ensures.written clean t (first.same_rows t holds)));
         fault = reported_fault _ _ fails;
-        desk_unchanged = keeps_then g.S.Store c.args.desk.now c.head.new.self c.write_parts.new.desk first c.in_err-write_parts.ensures.keeps;
+        desk_unchanged = keeps_then g.S.Store c.args.desk.now c.head.new.self c.write_statement_lines.new.desk first c.in_err-write_statement_lines.ensures.keeps;
         unwritten = λ refusal is. absurd (no_refusal _ _ refusal fails is);
       };
     }
@@ -65,11 +65,11 @@ returns g c =
     record {
       stated = record {
         written = λ clean t holds.
-            let mid = clean_then g.S.Store c.head.new.self c.write_parts.new.desk c.in_ok-write_parts.ensures.keeps clean in
+            let mid = clean_then g.S.Store c.head.new.self c.write_statement_lines.new.desk c.in_ok-write_statement_lines.ensures.keeps clean in
             let is_head = (rw (c.in-Ok-Some.is, c.in-Ok-Some.field-0-is) at (c.head.ensures.read.answered mid)) t holds in
-            states_all t c.args.account c.in-Ok-Some.head c.args.from c.args.to days is_head _ _ (c.in_ok-write_parts.ensures.written clean t (first.same_rows t holds));
+            states_all t c.args.account c.in-Ok-Some.head c.args.from c.args.to days is_head _ _ (c.in_ok-write_statement_lines.ensures.written clean t (first.same_rows t holds));
         fault = tt;
-        desk_unchanged = keeps_then g.S.Store c.args.desk.now c.head.new.self c.write_parts.new.desk first c.in_ok-write_parts.ensures.keeps;
+        desk_unchanged = keeps_then g.S.Store c.args.desk.now c.head.new.self c.write_statement_lines.new.desk first c.in_ok-write_statement_lines.ensures.keeps;
         unwritten = λ refusal is. absurd (let same = is in cc);
       };
     }

@@ -31,6 +31,6 @@ returns g c =
     let next = c.in_ok-next.next in
     let all = c.in_ok-has_reached_limit.has_reached_limit in
     record {
-      read = read_with g.S.Store c.args.self.now c.next_cash_row_number.new.self c.has_most_movements.new.self next all (next, all) IsNext AreAll AreNextAndAll
+      read = read_with g.S.Store c.args.self.now c.next_cash_row_number.new.self c.has_reached_movement_limit.new.self next all (next, all) IsNext AreAll AreNextAndAll
           (λ t is are. (is, are)) c.in_ok-next.ensures.read c.in_ok-has_reached_limit.ensures.read;
     }

@@ -3,4 +3,4 @@ use Rattle.brk_store.proofs.store.Store.page_of_lots.Goals as goal
 
 pub returns : goal.returns
 returns g c =
-    record { read = then_read g.S.Store c.args.self.now c.prepare_index.new.self c.page_of_indexed_lots.new.self c.page_of_indexed_lots.result _ c.prepare_index.ensures c.page_of_indexed_lots.ensures.read }
+    record { read = then_read g.S.Store c.args.self.now c.prepare_index.new.self c.page_with_prepared_index.new.self c.page_with_prepared_index.result _ c.prepare_index.ensures c.page_with_prepared_index.ensures.read }

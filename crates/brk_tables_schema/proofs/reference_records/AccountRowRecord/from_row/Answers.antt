@@ -36,12 +36,12 @@ returns-in_err-id_cell-3-clause-form c =
     (handed_on c.id_cell-3.result c.from_residual-in_err-id_cell-3.result _ c.from_residual-in_err-id_cell-3.ensures.1
     c.in_err-id_cell-3.was h))
 
-pub returns-in_err-formed_cell-clause-form : goal.returns-in_err-formed_cell-clause-form
-returns-in_err-formed_cell-clause-form c =
+pub returns-in_err-formed_text_cell-clause-form : goal.returns-in_err-formed_text_cell-clause-form
+returns-in_err-formed_text_cell-clause-form c =
     λ h. no_form_at account_column_cell_checks c.args.row.now 3 _ refl
-    (c.formed_cell.ensures.form
-    (handed_on c.formed_cell.result c.from_residual-in_err-formed_cell.result _
-    c.from_residual-in_err-formed_cell.ensures.1 c.in_err-formed_cell.was h))
+    (c.formed_text_cell.ensures.form
+    (handed_on c.formed_text_cell.result c.from_residual-in_err-formed_text_cell.result _
+    c.from_residual-in_err-formed_text_cell.ensures.1 c.in_err-formed_text_cell.was h))
 
 pub returns-in_err-tax_status_cell-clause-form : goal.returns-in_err-tax_status_cell-clause-form
 returns-in_err-tax_status_cell-clause-form c =

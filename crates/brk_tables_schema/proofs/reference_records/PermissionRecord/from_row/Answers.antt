@@ -13,10 +13,10 @@ pub returns-clause-value : goal.returns-clause-value
 returns-clause-value c =
     rw (
       sym c.in_ok-id_cell.ensures.value,
-      sym c.in_ok-formed_cell.ensures.value,
-      sym c.in_ok-formed_cell-2.ensures.value,
-      sym c.in_ok-formed_cell-3.ensures.value,
-      sym c.in_ok-formed_cell-4.ensures.value,
+      sym c.in_ok-formed_text_cell.ensures.value,
+      sym c.in_ok-formed_text_cell-2.ensures.value,
+      sym c.in_ok-formed_text_cell-3.ensures.value,
+      sym c.in_ok-formed_text_cell-4.ensures.value,
     )
     (five_columns c.args.row.now c.in_ok-check_column_count.ensures.columns)
 
@@ -32,30 +32,30 @@ returns-in_err-id_cell-clause-form c =
     (c.id_cell.ensures.form
     (handed_on c.id_cell.result c.from_residual-in_err-id_cell.result _ c.from_residual-in_err-id_cell.ensures.1 c.in_err-id_cell.was h))
 
-pub returns-in_err-formed_cell-clause-form : goal.returns-in_err-formed_cell-clause-form
-returns-in_err-formed_cell-clause-form c =
+pub returns-in_err-formed_text_cell-clause-form : goal.returns-in_err-formed_text_cell-clause-form
+returns-in_err-formed_text_cell-clause-form c =
     λ h. no_form_at permission_column_cell_checks c.args.row.now 1 _ refl
-    (c.formed_cell.ensures.form
-    (handed_on c.formed_cell.result c.from_residual-in_err-formed_cell.result _
-    c.from_residual-in_err-formed_cell.ensures.1 c.in_err-formed_cell.was h))
+    (c.formed_text_cell.ensures.form
+    (handed_on c.formed_text_cell.result c.from_residual-in_err-formed_text_cell.result _
+    c.from_residual-in_err-formed_text_cell.ensures.1 c.in_err-formed_text_cell.was h))
 
-pub returns-in_err-formed_cell-2-clause-form : goal.returns-in_err-formed_cell-2-clause-form
-returns-in_err-formed_cell-2-clause-form c =
+pub returns-in_err-formed_text_cell-2-clause-form : goal.returns-in_err-formed_text_cell-2-clause-form
+returns-in_err-formed_text_cell-2-clause-form c =
     λ h. no_form_at permission_column_cell_checks c.args.row.now 2 _ refl
-    (c.formed_cell-2.ensures.form
-    (handed_on c.formed_cell-2.result c.from_residual-in_err-formed_cell-2.result _
-    c.from_residual-in_err-formed_cell-2.ensures.1 c.in_err-formed_cell-2.was h))
+    (c.formed_text_cell-2.ensures.form
+    (handed_on c.formed_text_cell-2.result c.from_residual-in_err-formed_text_cell-2.result _
+    c.from_residual-in_err-formed_text_cell-2.ensures.1 c.in_err-formed_text_cell-2.was h))
 
-pub returns-in_err-formed_cell-3-clause-form : goal.returns-in_err-formed_cell-3-clause-form
-returns-in_err-formed_cell-3-clause-form c =
+pub returns-in_err-formed_text_cell-3-clause-form : goal.returns-in_err-formed_text_cell-3-clause-form
+returns-in_err-formed_text_cell-3-clause-form c =
     λ h. no_form_at permission_column_cell_checks c.args.row.now 3 _ refl
-    (c.formed_cell-3.ensures.form
-    (handed_on c.formed_cell-3.result c.from_residual-in_err-formed_cell-3.result _
-    c.from_residual-in_err-formed_cell-3.ensures.1 c.in_err-formed_cell-3.was h))
+    (c.formed_text_cell-3.ensures.form
+    (handed_on c.formed_text_cell-3.result c.from_residual-in_err-formed_text_cell-3.result _
+    c.from_residual-in_err-formed_text_cell-3.ensures.1 c.in_err-formed_text_cell-3.was h))
 
-pub returns-in_err-formed_cell-4-clause-form : goal.returns-in_err-formed_cell-4-clause-form
-returns-in_err-formed_cell-4-clause-form c =
+pub returns-in_err-formed_text_cell-4-clause-form : goal.returns-in_err-formed_text_cell-4-clause-form
+returns-in_err-formed_text_cell-4-clause-form c =
     λ h. no_form_at permission_column_cell_checks c.args.row.now 4 _ refl
-    (c.formed_cell-4.ensures.form
-    (handed_on c.formed_cell-4.result c.from_residual-in_err-formed_cell-4.result _
-    c.from_residual-in_err-formed_cell-4.ensures.1 c.in_err-formed_cell-4.was h))
+    (c.formed_text_cell-4.ensures.form
+    (handed_on c.formed_text_cell-4.result c.from_residual-in_err-formed_text_cell-4.result _
+    c.from_residual-in_err-formed_text_cell-4.ensures.1 c.in_err-formed_text_cell-4.was h))

@@ -15,7 +15,7 @@ returns-clause-value c =
     rw (
       sym c.in_ok-id_cell.ensures.value,
       sym c.in_ok-id_cell-2.ensures.value,
-      sym c.in_ok-formed_cell.ensures.value,
+      sym c.in_ok-formed_text_cell.ensures.value,
       sym
           c.in_ok-stamp_cell.ensures.value,
       sym c.in_ok-price_cell.ensures.value,
@@ -44,12 +44,12 @@ returns-in_err-id_cell-2-clause-form c =
     (handed_on c.id_cell-2.result c.from_residual-in_err-id_cell-2.result _ c.from_residual-in_err-id_cell-2.ensures.1
     c.in_err-id_cell-2.was h))
 
-pub returns-in_err-formed_cell-clause-form : goal.returns-in_err-formed_cell-clause-form
-returns-in_err-formed_cell-clause-form c =
+pub returns-in_err-formed_text_cell-clause-form : goal.returns-in_err-formed_text_cell-clause-form
+returns-in_err-formed_text_cell-clause-form c =
     λ h. no_form_at holding_column_cell_checks c.args.row.now 2 _ refl
-    (c.formed_cell.ensures.form
-    (handed_on c.formed_cell.result c.from_residual-in_err-formed_cell.result _
-    c.from_residual-in_err-formed_cell.ensures.1 c.in_err-formed_cell.was h))
+    (c.formed_text_cell.ensures.form
+    (handed_on c.formed_text_cell.result c.from_residual-in_err-formed_text_cell.result _
+    c.from_residual-in_err-formed_text_cell.ensures.1 c.in_err-formed_text_cell.was h))
 
 pub returns-in_err-stamp_cell-clause-form : goal.returns-in_err-stamp_cell-clause-form
 returns-in_err-stamp_cell-clause-form c =

@@ -11,7 +11,7 @@ four_columns _ h = absurd (omega (arith, h))
 
 pub returns-clause-value : goal.returns-clause-value
 returns-clause-value c =
-    rw (sym c.in_ok-formed_cell.ensures.value, sym c.in_ok-stamp_cell.ensures.value, sym c.in_ok-price_cell.ensures.value, sym c.in_ok-volume_cell.ensures.value)
+    rw (sym c.in_ok-formed_text_cell.ensures.value, sym c.in_ok-stamp_cell.ensures.value, sym c.in_ok-price_cell.ensures.value, sym c.in_ok-volume_cell.ensures.value)
     (four_columns c.args.row.now c.in_ok-check_column_count.ensures.columns)
 
 pub returns-in_err-check_column_count-clause-form : goal.returns-in_err-check_column_count-clause-form
@@ -20,12 +20,12 @@ returns-in_err-check_column_count-clause-form c =
     (c.check_column_count.ensures.form
     (handed_on c.check_column_count.result c.from_residual.result _ c.from_residual.ensures.1 c.in_err-check_column_count.was h))
 
-pub returns-in_err-formed_cell-clause-form : goal.returns-in_err-formed_cell-clause-form
-returns-in_err-formed_cell-clause-form c =
+pub returns-in_err-formed_text_cell-clause-form : goal.returns-in_err-formed_text_cell-clause-form
+returns-in_err-formed_text_cell-clause-form c =
     λ h. no_form_at last_trade_column_cell_checks c.args.row.now 0 _ refl
-    (c.formed_cell.ensures.form
-    (handed_on c.formed_cell.result c.from_residual-in_err-formed_cell.result _
-    c.from_residual-in_err-formed_cell.ensures.1 c.in_err-formed_cell.was h))
+    (c.formed_text_cell.ensures.form
+    (handed_on c.formed_text_cell.result c.from_residual-in_err-formed_text_cell.result _
+    c.from_residual-in_err-formed_text_cell.ensures.1 c.in_err-formed_text_cell.was h))
 
 pub returns-in_err-stamp_cell-clause-form : goal.returns-in_err-stamp_cell-clause-form
 returns-in_err-stamp_cell-clause-form c =

@@ -14,7 +14,7 @@ returns-clause-value c =
     rw (
       sym c.in_ok-id_cell.ensures.value,
       sym c.in_ok-trade_type_cell.ensures.value,
-      sym c.in_ok-formed_cell.ensures.value,
+      sym c.in_ok-formed_text_cell.ensures.value,
       sym
           c.in_ok-qty_cell.ensures.value,
       sym c.in_ok-price_cell.ensures.value,
@@ -41,12 +41,12 @@ returns-in_err-trade_type_cell-clause-form c =
     (handed_on c.trade_type_cell.result c.from_residual-in_err-trade_type_cell.result _ c.from_residual-in_err-trade_type_cell.ensures.1
     c.in_err-trade_type_cell.was h))
 
-pub returns-in_err-formed_cell-clause-form : goal.returns-in_err-formed_cell-clause-form
-returns-in_err-formed_cell-clause-form c =
+pub returns-in_err-formed_text_cell-clause-form : goal.returns-in_err-formed_text_cell-clause-form
+returns-in_err-formed_text_cell-clause-form c =
     λ h. no_form_at request_column_cell_checks c.args.row.now 2 _ refl
-    (c.formed_cell.ensures.form
-    (handed_on c.formed_cell.result c.from_residual-in_err-formed_cell.result _
-    c.from_residual-in_err-formed_cell.ensures.1 c.in_err-formed_cell.was h))
+    (c.formed_text_cell.ensures.form
+    (handed_on c.formed_text_cell.result c.from_residual-in_err-formed_text_cell.result _
+    c.from_residual-in_err-formed_text_cell.ensures.1 c.in_err-formed_text_cell.was h))
 
 pub returns-in_err-qty_cell-clause-form : goal.returns-in_err-qty_cell-clause-form
 returns-in_err-qty_cell-clause-form c =

@@ -14,7 +14,7 @@ pub returns-clause-value : goal.returns-clause-value
 returns-clause-value c =
     rw (
       sym c.in_ok-id_cell.ensures.value,
-      sym c.in_ok-formed_cell.ensures.value,
+      sym c.in_ok-formed_text_cell.ensures.value,
       to_z-of_z w64 c.in_ok-integer_cell.field-0
           (search rules),
       sym c.in_ok-integer_cell.ensures.value,
@@ -33,12 +33,12 @@ returns-in_err-id_cell-clause-form c =
     (c.id_cell.ensures.form
     (handed_on c.id_cell.result c.from_residual-in_err-id_cell.result _ c.from_residual-in_err-id_cell.ensures.1 c.in_err-id_cell.was h))
 
-pub returns-in_err-formed_cell-clause-form : goal.returns-in_err-formed_cell-clause-form
-returns-in_err-formed_cell-clause-form c =
+pub returns-in_err-formed_text_cell-clause-form : goal.returns-in_err-formed_text_cell-clause-form
+returns-in_err-formed_text_cell-clause-form c =
     λ h. no_form_at summary_column_cell_checks c.args.row.now 1 _ refl
-    (c.formed_cell.ensures.form
-    (handed_on c.formed_cell.result c.from_residual-in_err-formed_cell.result _
-    c.from_residual-in_err-formed_cell.ensures.1 c.in_err-formed_cell.was h))
+    (c.formed_text_cell.ensures.form
+    (handed_on c.formed_text_cell.result c.from_residual-in_err-formed_text_cell.result _
+    c.from_residual-in_err-formed_text_cell.ensures.1 c.in_err-formed_text_cell.was h))
 
 pub returns-in_err-integer_cell-clause-form : goal.returns-in_err-integer_cell-clause-form
 returns-in_err-integer_cell-clause-form c =

@@ -8,7 +8,7 @@ pub returns-clause-value : goal.returns-clause-value
 returns-clause-value c =
     row_is _ _ _ _ _ _ _ _ _ _ _ _ _ _ _ c.args.row.now c.in_ok-check_column_count.ensures.columns c.in_ok-id_cell.ensures.value
     c.in_ok-stamp_cell.ensures.value c.in_ok-status_cell.ensures.value c.in_ok-trade_type_cell.ensures.value
-    c.in_ok-flag_cell.ensures.value c.in_ok-formed_cell.ensures.value c.in_ok-qty_cell.ensures.value
+    c.in_ok-flag_cell.ensures.value c.in_ok-formed_text_cell.ensures.value c.in_ok-qty_cell.ensures.value
     c.in_ok-price_cell.ensures.value c.in_ok-id_cell-2.ensures.value c.in_ok-text_cell.ensures.value
     c.in_ok-optional_price_cell.ensures.value c.in_ok-charge_cell.ensures.value c.in_ok-amount_cell.ensures.value
     c.in_ok-amount_cell-2.ensures.value c.in_ok-flag_cell-2.ensures.value
@@ -19,12 +19,12 @@ returns-in_err-check_column_count-clause-form c =
     (c.check_column_count.ensures.form
     (handed_on c.check_column_count.result c.from_residual.result _ c.from_residual.ensures.1 c.in_err-check_column_count.was h))
 
-pub returns-in_err-formed_cell-clause-form : goal.returns-in_err-formed_cell-clause-form
-returns-in_err-formed_cell-clause-form c =
+pub returns-in_err-formed_text_cell-clause-form : goal.returns-in_err-formed_text_cell-clause-form
+returns-in_err-formed_text_cell-clause-form c =
     λ h. no_form_at trade_column_cell_checks c.args.row.now 5 _ refl
-    (c.formed_cell.ensures.form
-    (handed_on c.formed_cell.result c.from_residual-in_err-formed_cell.result _
-    c.from_residual-in_err-formed_cell.ensures.1 c.in_err-formed_cell.was h))
+    (c.formed_text_cell.ensures.form
+    (handed_on c.formed_text_cell.result c.from_residual-in_err-formed_text_cell.result _
+    c.from_residual-in_err-formed_text_cell.ensures.1 c.in_err-formed_text_cell.was h))
 
 pub returns-in_err-qty_cell-clause-form : goal.returns-in_err-qty_cell-clause-form
 returns-in_err-qty_cell-clause-form c =

@@ -1,5 +1,0 @@
-use Rattle.brk_audit_theorems.proofs.SoundSteps.{empty_sound}
-use Rattle.brk_audit_theorems.proofs.sound.empty_base_satisfies_audit_invariant.Goals as goal
-
-pub returns : goal.returns
-returns c = empty_sound

@@ -1,0 +1,13 @@
+use Rattle.std.proofs.Common.{◌≤◌, ◌-◌}
+use Rattle.brk_cli_jobs.specs.Serving.{RunsSinceOpening, ServesInSequence}
+use Rattle.brk_cli_jobs.proofs.serve.serve_file_on.Given as goal
+
+abbrev pub invariant-streams : goal.invariant-streams
+invariant-streams g l = record {
+  within : l.served ≤ l.streams;
+  so_far : ServesInSequence g.S.Store g.F.DeskFiles.opens g.F.DeskFiles.closes g.C.Clock.gives l.path l.served l.fn.clock l.clock l.fn.store l.store;
+  run : RunsSinceOpening g.S.Store g.F.DeskFiles.opens l.path l.fn.store l.store;
+}
+
+abbrev pub decreases-streams : goal.decreases-streams
+decreases-streams g l = l.streams - l.served

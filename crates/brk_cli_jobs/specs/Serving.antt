@@ -1,0 +1,145 @@
+-- What the job that serves does with a desk in a file: each stream is served by the desk of the
+-- stream before or, if the fault `Store` was found in between, by that of the file opened again.
+-- `opens` and `closes` are relations of the files (`DeskFiles`), `gives` that of a clock reading.
+use Rattle.std.specs.Prelude.{◌≡◌, ◌⊎◌, ◌<◌, ℕ, zero, suc, Bool, true, false, List, [], ◌∷◌, Option, Result, Ok, Err}
+use Rattle.std.specs.Borrow.{Bor}
+use Rattle.sqlite_trees.specs.declared.store.Store.{Ghosts}
+use Rattle.sqlite.specs.Held.{Held}
+use Rattle.brk_cli_exit.specs.Ending.{ending_after_close}
+use Rattle.brk_cli_exit.specs.declared.ending.Ending.{Ending}
+use Rattle.brk_cli_exit.specs.declared.ending.Ending.TheVariants as ending
+use Rattle.brk_desk.specs.Runs.{IsRunWithOutcomes, IsSomeDeskRun}
+use Rattle.brk_desk.specs.declared.call.Call as made
+use Rattle.brk_desk.specs.declared.call.Call.TheVariants as call
+use Rattle.brk_desk.specs.declared.call.Outcome as came
+use Rattle.brk_desk.specs.declared.call.Outcome.TheVariants as outcome
+use Rattle.brk_io.specs.Readings.{ReturnsReading, program_clock}
+use Rattle.brk_money.specs.declared.fault.Fault.{Fault}
+use Rattle.brk_money.specs.declared.fault.Fault.TheVariants as fault
+use Rattle.brk_cli_jobs.specs.Files.{CloseRelation, OpenRelation}
+use Rattle.brk_cli_jobs.specs.Jobs.{ServesListener}
+
+-- The fault is `Store`.
+abbrev pub is_store : Fault → Bool
+is_store fault.Store = true
+is_store fault.Memory = false
+is_store (fault.Damaged c) = false
+
+-- The result is the fault `Store`.
+abbrev pub has_store_fault : {A : Type 0} → Result A Fault → Bool
+has_store_fault (Ok answer) = false
+has_store_fault (Err fault) = is_store fault
+
+-- The outcome is the fault `Store`.
+abbrev pub is_store_fault : came.Outcome → Bool
+is_store_fault (outcome.Failed fault) = is_store fault
+is_store_fault other = false
+
+-- The call is a query.
+abbrev pub IsQuery : made.Call → Type 0
+IsQuery (call.Ask query) = Unit {0}
+IsQuery (call.Do command key) = ⊥
+
+-- One query turned the desk from `old` to `new`. `failed`: its outcome is the fault `Store`.
+pub record AsksDesk {S : Type 0} (g : Ghosts S) (old new : Held S) (failed : Bool) : Type 0 where
+  pub time : ℕ
+  pub query : made.Call
+  pub is_query : IsQuery query
+  pub outcome : came.Outcome
+  pub run : IsRunWithOutcomes g old new ((time, query) ∷ []) (outcome ∷ [])
+  pub fault : failed ≡ is_store_fault outcome
+
+-- The file at the path was opened, closed and opened again. `Ok`: with this store. `Err`: an open
+-- or the close failed with this fault.
+abbrev pub OpensFileAgain : {S : Type 0} → OpenRelation S → CloseRelation S → List ℕ → Result (Held S) Fault → Type 0
+OpensFileAgain {S} opens closes path (Ok store) = (found : Held S) × opens path (Ok found) × closes found (Ok tt) × opens path (Ok store)
+OpensFileAgain {S} opens closes path (Err fault) = opens path (Err fault) ⊎ ((found : Held S) × opens path (Ok found) × closes found (Err fault))
+
+-- The desk `old` failed with the fault `Store` at a query, was closed, with any result, and its file
+-- was opened again (`OpensFileAgain`).
+pub record ReopensDesk {S : Type 0} (g : Ghosts S) (opens : OpenRelation S) (closes : CloseRelation S) (path : List ℕ) (old : Held S)
+    (result : Result (Held S) Fault) : Type 0 where
+  pub last : Held S
+  pub asked : AsksDesk g old last true
+  pub closed : Result (Unit {0}) Fault
+  pub shut : closes last closed
+  pub reopened : OpensFileAgain opens closes path result
+
+-- The desk `old` executed a query without the fault `Store`, and is kept, as the desk `new`.
+abbrev pub KeepsDesk : {S : Type 0} → Ghosts S → Held S → Result (Held S) Fault → Type 0
+KeepsDesk g old (Ok new) = AsksDesk g old new false
+KeepsDesk g old (Err fault) = ⊥
+
+-- The desk for the next stream: `old` itself, or its file opened again, which may have failed.
+abbrev pub ReadiesDesk : {S : Type 0} → Ghosts S → OpenRelation S → CloseRelation S → List ℕ → Held S → Result (Held S) Fault → Type 0
+ReadiesDesk g opens closes path old result = KeepsDesk g old result ⊎ ReopensDesk g opens closes path old result
+
+-- The desk `desk` served one stream after `old`, with the result `result`, and became `new`.
+pub record ServesStream {S C : Type 0} (g : Ghosts S) (opens : OpenRelation S) (closes : CloseRelation S) (gives : C → ℕ → C → Type 0) (path : List ℕ)
+    (clock later : C) (old new : Held S) (result : Result (Unit {0}) Ending) : Type 0 where
+  pub desk : Held S
+  pub ready : ReadiesDesk g opens closes path old (Ok desk)
+  pub served : ServesListener g gives 1 clock later desk new result
+
+-- Exactly `count` streams were served in sequence, each by the desk of the stream before or by the
+-- desk of the file that was opened again (`ServesStream`). Without streams `new` equals `old`.
+abbrev pub ServesInSequence : {S C : Type 0} → Ghosts S → OpenRelation S → CloseRelation S → (C → ℕ → C → Type 0) → List ℕ → ℕ → C → C → Held S → Held S → Type 0
+ServesInSequence g opens closes gives path zero clock later old new = (later ≡ clock) × (new ≡ old)
+ServesInSequence {S} {C} g opens closes gives path (suc count) clock later old new =
+    (mid : C) × (last : Held S) × ServesInSequence g opens closes gives path count clock mid old last
+    × ServesStream g opens closes gives path mid later last new (Ok tt)
+
+-- The desk `new` was closed with the result `closed`, and the ending is `reached`, or `Open` with
+-- the fault of the close if the job was done.
+abbrev pub ClosesWithEnding : {S : Type 0} → CloseRelation S → Held S → Ending → Ending → Type 0
+ClosesWithEnding closes new reached end = (closed : Result (Unit {0}) Fault) × closes new closed × (end ≡ ending_after_close reached closed)
+
+-- One stream was served by the desk `old`. `Ok`: to its end, and `new` is the desk after it. `Err`:
+-- serving failed, and the desk was closed (`ClosesWithEnding`).
+abbrev pub ServesStreamOrCloses : {S C : Type 0} → Ghosts S → CloseRelation S → (C → ℕ → C → Type 0) → C → C → Held S → Result (Held S) Ending → Type 0
+ServesStreamOrCloses g closes gives clock later old (Ok new) = ServesListener g gives 1 clock later old new (Ok tt)
+ServesStreamOrCloses {S} g closes gives clock later old (Err end) =
+    (new : Held S) × (reached : Ending) × ServesListener g gives 1 clock later old new (Err reached) × ClosesWithEnding closes new reached end
+
+-- After the desk `old` no stream could be served to its end: the file could not be opened again,
+-- and the ending is `Open` with the fault; or serving failed, and the desk was closed.
+abbrev pub FailsAtStream : {S C : Type 0} → Ghosts S → OpenRelation S → CloseRelation S → (C → ℕ → C → Type 0) → List ℕ → C → Held S → Ending → Type 0
+FailsAtStream {S} {C} g opens closes gives path clock old end =
+    ((fault : Fault) × ReadiesDesk g opens closes path old (Err fault) × (end ≡ ending.Open fault))
+    ⊎ ((later : C) × (new : Held S) × (reached : Ending) × ServesStream g opens closes gives path clock later old new (Err reached)
+    × ClosesWithEnding closes new reached end)
+
+-- The result of serving the next stream after `old`: the desk `new`, or an end by `FailsAtStream`.
+abbrev pub ServesNextStream : {S C : Type 0} → Ghosts S → OpenRelation S → CloseRelation S → (C → ℕ → C → Type 0) → List ℕ → C → C → Held S
+    → Result (Held S) Ending → Type 0
+ServesNextStream g opens closes gives path clock later old (Ok new) = ServesStream g opens closes gives path clock later old new (Ok tt)
+ServesNextStream g opens closes gives path clock later old (Err end) = FailsAtStream g opens closes gives path clock old end
+
+-- `count` of `streams` streams were served, `desk` is the desk and `clock` the clock after them. They
+-- are all, and the desk was closed; or they are fewer, and `FailsAtStream` holds.
+abbrev pub EndsServing : {S C : Type 0} → Ghosts S → OpenRelation S → CloseRelation S → (C → ℕ → C → Type 0) → List ℕ → ℕ → ℕ → C → Held S → Ending → Type 0
+EndsServing g opens closes gives path streams count clock desk end =
+    ((count ≡ streams) × ClosesWithEnding closes desk ending.Done end) ⊎ ((count < streams) × FailsAtStream g opens closes gives path clock desk end)
+
+-- The desk `new` came about by calls of the desk alone from the desk `old`, or from a desk of the
+-- file as it was opened.
+abbrev pub RunsSinceOpening : {S : Type 0} → Ghosts S → OpenRelation S → List ℕ → Held S → Held S → Type 0
+RunsSinceOpening {S} g opens path old new = (first : Held S) × ((first ≡ old) ⊎ opens path (Ok first)) × IsSomeDeskRun g first new
+
+-- `streams` streams were served in sequence after the desk `old`, or serving them failed.
+pub record ServesStreamsAndCloses {S C : Type 0} (g : Ghosts S) (opens : OpenRelation S) (closes : CloseRelation S) (gives : C → ℕ → C → Type 0) (path : List ℕ)
+    (streams : ℕ) (clock : C) (old : Held S) (end : Ending) : Type 0 where
+  -- The number of streams that were served to their ends, and the clock and the desk after them.
+  pub count : ℕ
+  pub later : C
+  pub last : Held S
+  pub served : ServesInSequence g opens closes gives path count clock later old last
+  -- Since the last opening the desk changed only by calls of the desk.
+  pub run : RunsSinceOpening g opens path old last
+  pub ended : EndsServing g opens closes gives path streams count later last end
+
+-- The job served its streams from the desk in the file at the path, with the program's clock
+-- (`ServesStreamsAndCloses`); or its port could not be opened, and the unchanged desk was closed.
+abbrev pub ServesStreamsInFile : {S R : Type 0} → Ghosts S → OpenRelation S → CloseRelation S → Bor R → List ℕ → Option ℕ → ℕ → Held S → Ending → Type 0
+ServesStreamsInFile g opens closes machine path at streams old end =
+    ClosesWithEnding closes old ending.Net end ⊎ ServesStreamsAndCloses g opens closes ReturnsReading path streams (program_clock machine at) old end

@@ -1,0 +1,14 @@
+use Rattle.std.proofs.Common.{◌≡◌, ◌==◌, ◌∙◌, find, option_map}
+use Rattle.brk_model.specs.Tables.{Tables}
+use Rattle.brk_ref.specs.Records.{abstract_account_row}
+use Rattle.brk_model.specs.Form.{has_account}
+use Rattle.brk_trade_books.proofs.Reading.{is_there}
+use Rattle.brk_store.proofs.Retelling.{retold}
+use Rattle.brk_desk_decisions.proofs.reference_finding.account_exists.Goals as goal
+
+pub returns : goal.returns
+returns g c =
+    retold g.S.Store c.args.store.now c.account.new.self c.in_ok-account.field-0 c.is_some.result
+    (λ o (t : Tables). option_map abstract_account_row o ≡ find (λ r. r.id == c.args.id) t.accounts) (λ there (t : Tables). there ≡ has_account t c.args.id)
+    (λ t e. c.is_some.ensures ∙ is_there abstract_account_row c.in_ok-account.field-0 (find (λ r. r.id == c.args.id) t.accounts) e)
+    c.in_ok-account.ensures.read

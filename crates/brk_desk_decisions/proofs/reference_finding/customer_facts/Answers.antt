@@ -1,0 +1,25 @@
+use Rattle.std.proofs.Common.{◌≡◌}
+use Rattle.brk_money.specs.declared.fault.CallFault.{CallFault}
+use Rattle.brk_model.specs.Form.{has_customer}
+use Rattle.brk_model.specs.Tables.{Tables}
+use Rattle.brk_trade_plans.specs.declared.reference.ReferenceFacts.{ReferenceFacts}
+use Rattle.brk_trade_books.specs.Reads.{contains_customer_with_tax_id}
+use Rattle.brk_store.proofs.Sequences.{failed_after, read_with}
+use Rattle.std.proofs.lemmas.Result.{err_from_is_err_and}
+use Rattle.brk_store.specs.ReadSequences.{single_read_changes_nothing}
+use Rattle.brk_desk_decisions.proofs.reference_finding.customer_facts.Goals as goal
+
+pub returns : goal.returns
+returns g c =
+    let customer = c.args.customer.now in
+    read_with g.S.Store c.args.store.now c.customer_exists.new.store c.tax_id_exists.new.store {H = CallFault} c.in_ok-same_id.same_id c.in_ok-same_tax_id.same_tax_id _
+    (λ there (t : Tables). there ≡ has_customer t customer.id) (λ there (t : Tables). there ≡ contains_customer_with_tax_id t customer.tax_id)
+    (λ (found : ReferenceFacts) (t : Tables). (found.same_id ≡ has_customer t customer.id) × (found.same_tax_id ≡ contains_customer_with_tax_id t customer.tax_id))
+    (λ t a b. (a, b)) c.in_ok-same_id.ensures c.in_ok-same_tax_id.ensures
+
+pub returns-in_err-same_tax_id : goal.returns-in_err-same_tax_id
+returns-in_err-same_tax_id g c =
+    let old = c.args.store.now in
+    let p = err_from_is_err_and c.from_residual-in_err-same_tax_id.result c.from_residual-in_err-same_tax_id.ensures.1 in
+    rw p.1 (failed_after g.S.Store old c.customer_exists.new.store c.tax_id_exists.new.store _ p.0 _ _
+    (single_read_changes_nothing old c.customer_exists.new.store _ _ c.in_ok-same_id.ensures) c.in_err-same_tax_id.ensures)

@@ -1,7 +1,0 @@
-use Rattle.std.proofs.Common.{drop, ◌↔◌}
-use Rattle.brk_lots.specs.Order.{IsOneSidedAndAscending}
-use Rattle.brk_lots.proofs.lawful.each_precedes.Given as goal
-
--- it is left to see whether the rest climbs
-abbrev pub invariant-loop-i : goal.invariant-loop-i
-invariant-loop-i l = IsOneSidedAndAscending (drop l.i l.lots) ↔ IsOneSidedAndAscending l.lots

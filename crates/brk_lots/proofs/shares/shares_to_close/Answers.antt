@@ -1,5 +1,0 @@
-use Rattle.std.proofs.Common.{rules, arith}
-use Rattle.brk_lots.proofs.shares.shares_to_close.Goals as goal
-
-pub returns : goal.returns
-returns c = search (rules, arith)

@@ -1,8 +1,0 @@
-use Rattle.brk_model_theorems.proofs.NameLaws.{is_named, still-named}
-use Rattle.brk_model_theorems.proofs.names.runs_preserve_references.Goals as goal
-
-pub returns-clause-run : goal.returns-clause-run
-returns-clause-run c = still-named
-
-pub returns-clause-from_empty_base : goal.returns-clause-from_empty_base
-returns-clause-from_empty_base c = is_named

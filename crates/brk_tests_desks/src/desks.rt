@@ -1,0 +1,226 @@
+//! New desks, the calls that tests make on them, and batches that run on them.
+//!
+//! The functions that call a desk or its store have no contracts, so that the contract of what they
+//! call is read by one proof alone.
+
+use crate::statements::Asked;
+use crate::worked::{FIRST_MOMENT, SET, SET_LINES};
+use brk_desk::Desk;
+use brk_http::{ServeFault, serve_stream};
+use brk_import::{BatchFault, Clock, Counts, run_batch};
+use brk_money::{Fault, Stamp};
+use brk_report::{ReportFault, statement};
+use brk_store::Store;
+use sqlite::{Alter, Connection, MemStore};
+use std::alloc::Global;
+use std::fmt::Display;
+use std::io::{Read, Write};
+use std::test::Fail;
+
+/// Checks that `holds` is true. Fails with the text of `why` if not.
+pub fn expect<D: Display + Drop>(holds: bool, why: D) -> Result<(), Fail> {
+    if holds { Ok(()) } else { Err(Fail::new(why)) }
+}
+
+/// Returns the connection `conn`. Fails if it is `None`.
+pub fn expect_connection<S: Alter + Drop>(
+    conn: Option<Connection<S>>,
+) -> Result<Connection<S>, Fail> {
+    match conn {
+        Some(conn) => Ok(conn),
+        None => Err("no database")?,
+    }
+}
+
+/// Opens a new database in memory. Returns `None` only if memory runs out.
+pub fn open_in_memory(alloc: Global) -> Option<Connection<MemStore>> {
+    Connection::open_in_memory(alloc).ok()
+}
+
+/// A clock that always returns 2024-03-01 00:00 UTC.
+#[derive(Drop)]
+pub struct Still {
+    at: Stamp,
+}
+
+impl Still {
+    /// Creates the clock that always returns 2024-03-01 00:00 UTC.
+    pub fn at_first_timestamp() -> Still {
+        Still {
+            at: Stamp::nearest(FIRST_MOMENT),
+        }
+    }
+}
+
+impl Clock for Still {
+    /// Returns the fixed timestamp.
+    fn now(&mut self) -> Stamp {
+        self.at
+    }
+}
+
+/// Creates a store in the database of a connection, by `Store::create`. Fails with the connection
+/// and the fault if the store cannot be created.
+pub fn create_store<S: Alter + Drop>(
+    conn: Connection<S>,
+) -> Result<Store<S>, (Connection<S>, Fault)> {
+    Store::create(conn)
+}
+
+/// Returns the connection of the store of a desk, without the desk.
+pub fn connection_of_desk<S: Alter + Drop>(desk: Desk<S>) -> Connection<S> {
+    desk.into_store().into_conn()
+}
+
+/// Executes the batch that `reader` returns on a desk at 2024-03-01 00:00 UTC, by `run_batch`, and
+/// writes its lines to `writer`. Returns the counts of its rows, or the fault.
+pub fn run_batch_of_reader<R: Read + Drop, W: Write, S: Alter>(
+    alloc: Global,
+    reader: R,
+    writer: &mut W,
+    desk: &mut Desk<S>,
+) -> Result<Counts, BatchFault> {
+    run_batch(
+        alloc,
+        reader,
+        writer,
+        &mut Still::at_first_timestamp(),
+        desk,
+    )
+}
+
+/// Serves the stream of HTTP requests that `reader` returns on a desk at 2024-03-01 00:00 UTC, by
+/// `serve_stream`, and writes the replies to `writer`. Returns the number of replies, or the fault.
+pub fn serve_stream_of_reader<R: Read + Drop, W: Write, S: Alter>(
+    alloc: Global,
+    reader: R,
+    writer: &mut W,
+    desk: &mut Desk<S>,
+) -> Result<u64, ServeFault> {
+    serve_stream(
+        alloc,
+        reader,
+        writer,
+        &mut Still::at_first_timestamp(),
+        desk,
+    )
+}
+
+/// Writes to `writer` the statement of the account of `asked` for its days, on a desk, by
+/// `statement`. Fails with the fault of the statement.
+pub fn write_statement<W: Write, S: Alter>(
+    alloc: Global,
+    asked: Asked,
+    writer: &mut W,
+    desk: &mut Desk<S>,
+) -> Result<(), ReportFault> {
+    let Asked { account, from, to } = asked;
+    statement(alloc, desk, account, from, to, writer)
+}
+
+/// Checks that the text `told` has exactly the lines `wanted`. Fails with `name`, `what` and the
+/// number, counted from 1, of the first line that differs, and with `name` and `what` if no line
+/// differs but the texts do, for example because lines are missing or there are more.
+pub(crate) fn expect_lines(name: &str, what: &str, told: &str, wanted: &str) -> Result<(), Fail> {
+    let mut at = 0u64;
+    for (line, want) in told.lines().zip(wanted.lines()) {
+        at = at.saturating_add(1);
+        if line != want {
+            return Err(Fail::new(format_args!("{name}: line {at} of the {what}")));
+        }
+    }
+    if told == wanted {
+        Ok(())
+    } else {
+        Err(Fail::new(format_args!("{name}: {what} that are missing, or more of them")))
+    }
+}
+
+/// A batch, and the lines that it writes on a desk at 2024-03-01 00:00 UTC.
+#[derive(Clone, Copy)]
+pub struct Step<'a> {
+    pub batch: &'a [u8],
+    pub lines: &'a str,
+}
+
+/// Returns a new desk in the database of a connection. Its tables have no rows, except for one row
+/// of the table DESK. Fails without a connection, and if the desk cannot be created.
+pub fn new_desk<S: Alter + Drop>(conn: Option<Connection<S>>) -> Result<Desk<S>, Fail> {
+    match create_store(expect_connection(conn)?) {
+        Ok(store) => Ok(Desk::new(store)),
+        Err(_) => Err("no store")?,
+    }
+}
+
+/// Returns a new desk in the database of a connection after the batch `SET`, which adds a broker, a
+/// customer, an account, a security, charges, commission bands and a tax rate. Fails without a
+/// connection, if the desk cannot be created, if the batch fails or writes other lines than
+/// `SET_LINES`, and if memory runs out.
+pub fn desk_with_reference_data<S: Alter + Drop>(
+    alloc: Global,
+    conn: Option<Connection<S>>,
+) -> Result<Desk<S>, Fail> {
+    let mut desk = new_desk(conn)?;
+    let set = Step {
+        batch: SET,
+        lines: SET_LINES,
+    };
+    expect_batch_result(alloc, &mut desk, "set", set)?;
+    Ok(desk)
+}
+
+/// Executes a batch on a desk at 2024-03-01 00:00 UTC. Returns the bytes that the batch wrote, and
+/// the counts of its rows or the fault.
+pub fn run_batch_at_desk<S: Alter>(
+    alloc: Global,
+    desk: &mut Desk<S>,
+    input: &[u8],
+) -> (Vec<u8>, Result<Counts, BatchFault>) {
+    let mut lines = Vec::new(alloc);
+    let ended = run_batch_of_reader(alloc, input, &mut lines, desk);
+    (lines, ended)
+}
+
+// Checks that the bytes `told` that a batch wrote are exactly the lines `wanted`. Fails with `name`
+// and the number, counted from 1, of the first line that differs, and with `name` if no line
+// differs but the texts do. Fails without `name` if the bytes are not UTF-8.
+fn expect_batch_lines(name: &str, told: &[u8], wanted: &str) -> Result<(), Fail> {
+    match str::from_utf8(told) {
+        Ok(told) => expect_lines(name, "lines", told, wanted),
+        Err(_) => Err("no text")?,
+    }
+}
+
+// Checks that a batch completed, and that the lines `lines` end with the end line of its counts.
+// Fails with `name` if not, and without it if memory runs out.
+fn expect_batch_counts(
+    alloc: Global,
+    name: &str,
+    ended: Result<Counts, BatchFault>,
+    lines: &str,
+) -> Result<(), Fail> {
+    let Ok(Counts { ok, again, no }) = ended else {
+        return Err(Fail::new(format_args!("{name}: a fault")));
+    };
+    let last = format!(in alloc; "end,{ok},{again},{no}\n")?;
+    if lines.ends_with(last.as_str()) {
+        Ok(())
+    } else {
+        Err(Fail::new(format_args!("{name}: the counts")))
+    }
+}
+
+/// Executes the batch of `step` on a desk at 2024-03-01 00:00 UTC, and checks that the batch
+/// completes, that it writes exactly the lines of `step`, and that these lines end with the end
+/// line of its counts. Fails with `name` if not, and without it if the batch writes bytes that are
+/// not UTF-8. Fails also if memory runs out, with or without `name`.
+pub fn expect_batch_result<S: Alter>(
+    alloc: Global,
+    desk: &mut Desk<S>,
+    name: &str,
+    step: Step<'_>,
+) -> Result<(), Fail> {
+    let (lines, ended) = run_batch_at_desk(alloc, desk, step.batch);
+    expect_batch_lines(name, &lines, step.lines)?;
+    expect_batch_counts(alloc, name, ended, step.lines)
+}

@@ -1,5 +1,0 @@
-use Rattle.brk_trade_theorems.proofs.Planning.{plan_does}
-use Rattle.brk_trade_theorems.proofs.plans.reference_plans_implement_commands.Goals as goal
-
-pub returns : goal.returns
-returns c = plan_does

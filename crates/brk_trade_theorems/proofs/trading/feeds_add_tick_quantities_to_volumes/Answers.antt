@@ -1,5 +1,0 @@
-use Rattle.brk_trade_books.proofs.Volumes.{volumes_grow}
-use Rattle.brk_trade_theorems.proofs.trading.feeds_add_tick_quantities_to_volumes.Goals as goal
-
-pub returns : goal.returns
-returns c = volumes_grow
