@@ -121,8 +121,8 @@ abbrev pub EndsServing : {S C : Type 0} → Ghosts S → OpenRelation S → Clos
 EndsServing g opens closes gives path streams count clock desk end =
     ((count ≡ streams) × ClosesWithEnding closes desk ending.Done end) ⊎ ((count < streams) × FailsAtStream g opens closes gives path clock desk end)
 
--- The desk `new` came about by calls of the desk alone from the desk `old`, or from a desk of the
--- file as it was opened.
+-- Only calls of the desk led to the desk `new`, from the desk `old` or from a newly opened desk of
+-- the file.
 abbrev pub RunsSinceOpening : {S : Type 0} → Ghosts S → OpenRelation S → List ℕ → Held S → Held S → Type 0
 RunsSinceOpening {S} g opens path old new = (first : Held S) × ((first ≡ old) ⊎ opens path (Ok first)) × IsSomeDeskRun g first new
 
