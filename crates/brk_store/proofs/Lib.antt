@@ -9,3 +9,4 @@ pub mod TradesFound
 pub mod KeptIndex
 pub mod ByAges
 pub mod ByIndex
+pub mod Definitions

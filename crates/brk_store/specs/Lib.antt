@@ -1,3 +1,4 @@
+pub mod Adopted
 pub mod ReadSequences
 pub mod Numbers
 pub mod Walked

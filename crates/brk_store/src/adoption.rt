@@ -3,7 +3,8 @@
 ghost use Rattle.std.specs.Prelude.{◌≡◌, ◌≢◌, IfErr, MatchResult, Ok, Err, false, true};
 ghost use Rattle.brk_money.specs.declared.fault.Condition.TheVariants.{NotEmpty};
 ghost use Rattle.brk_money.specs.declared.fault.Fault.TheVariants as fault;
-ghost use Rattle.brk_store_transactions.specs.Audited.{AdoptPost, AuditPost};
+ghost use Rattle.brk_store_transactions.specs.Audited.{AdoptPost, AuditPost, ConnectionTablesWithDeskNamesAreDeskTables};
+ghost use Rattle.brk_store.specs.Adopted.{ConnectionPassesDefinitionTest, ConnectionTablesWithDeskNamesAreDefined};
 
 use crate::Store;
 use brk_money::Fault;
@@ -41,17 +42,21 @@ impl<S: Alter> Store<S> {
     /// only if the database is closed.
     ///
     /// Specified only if tables of the database with the names and column names of a schema satisfy
-    /// `HasDeskDefinitions`; an empty database has none.
+    /// `HasDeskDefinitions`; an empty database has none. Definitions as a desk's are enough for it
+    /// (`assumed`): the call tests them (`tested`), and the tables of every desk pass this test
+    /// (`tables_of_a_desk_pass_the_test`).
     pub fn adopt(alloc: Global, conn: Connection<S>) -> Result<Store<S>, (Connection<S>, Fault)>
         ensures adopted { MatchResult result (λ store. AdoptPost S.Store conn store (Ok tt)) (λ e. AdoptPost S.Store conn e.0 (Err e.1)) }
         ensures condition { IfErr result (λ e. e.1 ≢ fault.Damaged NotEmpty) }
         ensures no_transaction_open { IfErr result (λ e. conn.in_transaction ≡ false → e.0.in_transaction ≡ false) }
         ensures fails_in_transaction { conn.in_transaction ≡ true → result ≡ Err (conn, fault.Store) }
+        ensures tested { ConnectionPassesDefinitionTest S.Store conn → ConnectionTablesWithDeskNamesAreDeskTables S.Store conn }
+        ensures assumed { ConnectionTablesWithDeskNamesAreDefined S.Store conn → ConnectionTablesWithDeskNamesAreDeskTables S.Store conn }
     {
+        let (mut conn, has_definitions) = with_definitions_tested(conn);
         if !conn.is_autocommit() {
             return Err((conn, Fault::Store));
         }
-        let (mut conn, has_definitions) = with_definitions_tested(conn);
         match audit_and_upgrade_database(&mut conn, alloc) {
             Ok(()) => Ok(Store {
                 conn,

@@ -1,15 +1,15 @@
 use Rattle.std.proofs.Common.{rules, subst}
-use Rattle.sqlite.specs.Held.{Serves, state}
+use Rattle.sqlite.specs.Held.{Serves}
 use Rattle.brk_tables_definitions.specs.Definitions.{IsDefinedAsDeskDefines}
-use Rattle.brk_tables_definitions.proofs.Desks.{desk_tables_are_defined}
-use Rattle.brk_tables_definitions.proofs.Laid.{rowids_apart, trees_apart}
+use Rattle.brk_tables_definitions.proofs.Desks.{served_tables_are_desk_tables}
 use Rattle.brk_tables_definitions.proofs.connection.with_definitions_tested.Goals as goal
+
+pub returns-clause-assumed : goal.returns-clause-assumed
+returns-clause-assumed g c = λ is_open.
+    let store = c.args.conn.store in
+    let serves : Serves (g.S.Store.view store) c.args.conn.schema = search rules in
+    served_tables_are_desk_tables (g.S.Store.view store) c.args.conn.schema serves (g.met.S.Alter.listed store serves.unbroken) (g.met.S.Store.ordered store serves.unbroken)
 
 pub returns-clause-defined : goal.returns-clause-defined
 returns-clause-defined g c = λ has is_open.
-    let store = c.args.conn.store in
-    let serves : Serves (g.S.Store.view c.args.conn.store) c.args.conn.schema = search rules in
-    let listed = g.met.S.Alter.listed store serves.unbroken in
-    let ordered = g.met.S.Store.ordered store serves.unbroken in
-    desk_tables_are_defined (state g.S.Store c.args.conn).now serves.sound (trees_apart serves listed ordered) (rowids_apart serves listed ordered)
-    (λ w. subst (λ s. IsDefinedAsDeskDefines s w) c.schema.ensures.value (c.has_definitions_of_desk-has_definitions.ensures.0 has w))
+    returns-clause-assumed g c is_open (λ schema tables w of. subst (λ s. IsDefinedAsDeskDefines s w) c.schema.ensures.value (c.has_definitions_of_desk-has_definitions.ensures.0 has w))

@@ -1,7 +1,26 @@
 use Rattle.std.proofs.Common.{Ok, subst}
 use Rattle.brk_store_transactions.specs.Audited.{AdoptPost}
+use Rattle.brk_store.proofs.Definitions.{tables_that_are_defined, tables_that_pass}
 use Rattle.brk_store.proofs.KeptIndex.{index_of_adopted}
 use Rattle.brk_store.proofs.store.Store.adopt.Goals as goal
+
+pub returns-then-not-is_autocommit-clause-tested : goal.returns-then-not-is_autocommit-clause-tested
+returns-then-not-is_autocommit-clause-tested g c = tables_that_pass g.S.Store c.args.conn c.with_definitions_tested-conn.ensures.assumed
+
+pub returns-then-not-is_autocommit-clause-assumed : goal.returns-then-not-is_autocommit-clause-assumed
+returns-then-not-is_autocommit-clause-assumed g c = tables_that_are_defined g.S.Store c.args.conn c.with_definitions_tested-conn.ensures.assumed
+
+pub returns-in-Err-clause-tested : goal.returns-in-Err-clause-tested
+returns-in-Err-clause-tested g c = tables_that_pass g.S.Store c.args.conn c.with_definitions_tested-conn.ensures.assumed
+
+pub returns-in-Err-clause-assumed : goal.returns-in-Err-clause-assumed
+returns-in-Err-clause-assumed g c = tables_that_are_defined g.S.Store c.args.conn c.with_definitions_tested-conn.ensures.assumed
+
+pub returns-in-Ok-clause-tested : goal.returns-in-Ok-clause-tested
+returns-in-Ok-clause-tested g c = tables_that_pass g.S.Store c.args.conn c.with_definitions_tested-conn.ensures.assumed
+
+pub returns-in-Ok-clause-assumed : goal.returns-in-Ok-clause-assumed
+returns-in-Ok-clause-assumed g c = tables_that_are_defined g.S.Store c.args.conn c.with_definitions_tested-conn.ensures.assumed
 
 pub returns-in-Ok-clause-adopted : goal.returns-in-Ok-clause-adopted
 returns-in-Ok-clause-adopted g c =
