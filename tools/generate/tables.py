@@ -1097,7 +1097,7 @@ def all_of(words):
 
 def group_function(verb, word):
     """The function that reads or decodes the raw rows of a group"""
-    return f'{verb}_{words_of(word)}_rows'
+    return f'{verb}_{words_of(word)}_group'
 
 def rows_name(d):
     """The function that reads a whole table, in every schema"""

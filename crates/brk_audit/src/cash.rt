@@ -19,7 +19,7 @@ ghost use Rattle.brk_trade_rows.specs.Sheets.{abstract_sheets};
 
 use crate::status::stamp_in_millis;
 use brk_audit_sums::account_terms::{AccountTerms, tax_status_of, terms_by_id};
-use brk_audit_sums::amounts::settling_amount;
+use brk_audit_sums::amounts::settlement_amount_of_trade;
 use brk_audit_sums::completion::is_completed;
 use brk_audit_sums::summaries::all_three;
 use brk_money::{Cents, Id, Stamp, TaxStatus};
@@ -28,14 +28,14 @@ use brk_trade_rows::{Schema, Sheets};
 use std::alloc::{AllocError, Global};
 use std::collections::BTreeMap;
 
-fn is_row_of_trade(cash: &OldCashRow, trade: &TradeRow, tax_status: TaxStatus) -> bool
+fn is_cash_transaction_of_trade(cash: &OldCashRow, trade: &TradeRow, tax_status: TaxStatus) -> bool
     ensures { IsTrue result
         ↔ ((cash.now.trade ≡ trade.now.id) × (cash.now.stamp ≡ trade.now.stamp)
         × (cash.now.amount ≡ settlement_amount_at_tax_status tax_status (abstract_trade_row trade.now))) }
 {
     cash.trade == trade.id
         && cash.stamp == trade.stamp
-        && cash.amount.get() == settling_amount(trade, tax_status)
+        && cash.amount.get() == settlement_amount_of_trade(trade, tax_status)
 }
 
 fn is_completed_cash_trade(trade: &TradeRow) -> bool
@@ -46,7 +46,7 @@ fn is_completed_cash_trade(trade: &TradeRow) -> bool
 
 // Returns the rows after that of `trade`, if it is a completed cash trade; `None` if its row is not
 // the first.
-fn strip_row<'a>(
+fn strip_cash_transaction<'a>(
     cash: &'a [OldCashRow],
     trade: &TradeRow,
     terms: &BTreeMap<u64, AccountTerms>,
@@ -65,7 +65,7 @@ fn strip_row<'a>(
     let [first, others @ ..] = cash else {
         return None;
     };
-    if is_row_of_trade(first, trade, tax_status_of(terms, trade.account)) {
+    if is_cash_transaction_of_trade(first, trade, tax_status_of(terms, trade.account)) {
         Some(others)
     } else {
         None
@@ -85,7 +85,7 @@ fn cash_transactions_match_trades(
 {
     let mut rest = cash;
     for trade in trades {
-        let Some(others) = strip_row(rest, trade, terms) else {
+        let Some(others) = strip_cash_transaction(rest, trade, terms) else {
             return false;
         };
         rest = others;
@@ -135,10 +135,10 @@ fn is_cash_move_of_trade(row: CashMoveFigures, trade: &TradeRow, tax_status: Tax
     row.account == trade.account
         && row.trade == trade.id
         && row.stamp == trade.stamp
-        && row.amount.get() == settling_amount(trade, tax_status)
+        && row.amount.get() == settlement_amount_of_trade(trade, tax_status)
 }
 
-// Does for rows of CASH_MOVE what `strip_row` does for those of CASH_TRANSACTION.
+// Does for rows of CASH_MOVE what `strip_cash_transaction` does for those of CASH_TRANSACTION.
 fn strip_cash_move<'a>(
     rows: &'a [CashMoveFigures],
     trade: &TradeRow,

@@ -17,7 +17,7 @@ use brk_ref::TradeRow;
 use std::alloc::{AllocError, Global};
 use std::cmp::Ordering;
 
-fn collect_done(alloc: Global, trades: &[TradeRow]) -> Result<Vec<&TradeRow>, AllocError>
+fn collect_completed(alloc: Global, trades: &[TradeRow]) -> Result<Vec<&TradeRow>, AllocError>
     ensures { IfOk result (λ done. map (λ row. abstract_trade_row row.now) done.items
         ≡ filter is_completed_trade_row (map abstract_trade_row trades.now)) }
 {
@@ -44,7 +44,7 @@ fn position_order(one: &TradeRow, other: &TradeRow) -> Ordering
     accounts.then(symbols.then(moments))
 }
 
-fn sort_positions(done: &mut Vec<&TradeRow>)
+fn sort_by_position(done: &mut Vec<&TradeRow>)
     ensures permutation { IsPermutation done.old.items done.new.items }
     ensures order { IsSortedBy (λ one other. is_before_by_position (abstract_trade_row one.now) (abstract_trade_row other.now)) done.new.items }
 {
@@ -61,8 +61,8 @@ pub(crate) fn sorted_completed_trades(
     ensures order { IfOk result (λ done.
         IsSortedBy (λ one other. is_before_by_position (abstract_trade_row one.now) (abstract_trade_row other.now)) done.items) }
 {
-    let mut done = collect_done(alloc, trades)?;
-    sort_positions(&mut done);
+    let mut done = collect_completed(alloc, trades)?;
+    sort_by_position(&mut done);
     Ok(done)
 }
 

@@ -16,7 +16,7 @@ ghost use Rattle.brk_ref.specs.Rows.{abstract_settlement_row, abstract_trade_row
 ghost use Rattle.brk_trade_rows.specs.Sheets.{abstract_sheets};
 
 use brk_audit_sums::account_terms::{AccountTerms, tax_status_of, terms_by_id};
-use brk_audit_sums::amounts::settling_amount;
+use brk_audit_sums::amounts::settlement_amount_of_trade;
 use brk_audit_sums::completion::is_completed;
 use brk_money::{Day, Stamp, TaxStatus, day_of};
 use brk_ref::{SettlementRow, TradeRow};
@@ -42,7 +42,7 @@ fn settlement_matches_trade(
 {
     settlement.trade == trade.id
         && is_due_day(settlement.due_day, rule, trade.stamp)
-        && settlement.amount.get() == settling_amount(trade, tax_status)
+        && settlement.amount.get() == settlement_amount_of_trade(trade, tax_status)
 }
 
 // Returns the settlements after that of `trade`, if it is completed; `None` if its settlement is

@@ -97,6 +97,7 @@ fn is_valid_old_cash_row(
     Ok(is_named && is_valid_stamp(sheets, row.stamp) && is_valid_cents(row.amount))
 }
 
+// The amount of a deposit is above 0, that of a withdrawal below.
 fn is_movement_text(name: &str, amount: Cents) -> bool
     ensures { result ≡ form.is_movement_name_and_amount name.now amount }
 {

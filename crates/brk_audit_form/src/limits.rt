@@ -60,7 +60,8 @@ pub(crate) fn is_valid_charge(charge: ChargeAmount) -> bool
     charge.get() <= ChargeAmount::GREATEST
 }
 
-/// Returns false if the tables have no last stamp.
+/// Returns true if the stamp is not after the last stamp of the tables, and false if they have
+/// none.
 pub(crate) fn is_valid_stamp(sheets: &Sheets, stamp: Stamp) -> bool
     ensures { result ≡ form.is_at_most_last_stamp (abstract_sheets sheets.now) stamp }
 {

@@ -30,8 +30,9 @@ fn has_price_matching_completion(sheets: &Sheets, row: &TradeRow) -> bool
     }
 }
 
-// The calendar ends at 9999-12-31. A status other than `Completed` has no due day.
-fn has_due_day(rule: Option<Day>, status: Status, stamp: Stamp) -> bool
+// Returns true also for a status other than `Completed`, which has no due day. The calendar ends at
+// 9999-12-31.
+fn is_due_day_in_calendar(rule: Option<Day>, status: Status, stamp: Stamp) -> bool
     ensures { result ≡ form.settles_in_calendar_if_completed rule status stamp }
 {
     status != Status::Completed || completion_due_day(rule, stamp).is_some()
@@ -70,7 +71,7 @@ impl Formed for HistoryRow {
     fn is_valid_row(&self, _schema: Schema, sheets: &Sheets) -> bool {
         has_trade(sheets, self.trade)
             && is_valid_stamp(sheets, self.stamp)
-            && has_due_day(sheets.rule, self.status, self.stamp)
+            && is_due_day_in_calendar(sheets.rule, self.status, self.stamp)
     }
 }
 

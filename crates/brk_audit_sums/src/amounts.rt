@@ -53,7 +53,7 @@ fn net_value(side: Side, value: u64, taken_off: u64) -> i64
 
 /// Returns the settlement amount of a completed trade, below 0 if the account pays. Tax is deducted
 /// only at `Withheld`; a missing price counts as 0.
-pub fn settling_amount(trade: &TradeRow, tax_status: TaxStatus) -> i64
+pub fn settlement_amount_of_trade(trade: &TradeRow, tax_status: TaxStatus) -> i64
     ensures { result ≡ settlement_amount_at_tax_status tax_status (abstract_trade_row trade.now) }
 {
     let value = value_of_shares(trade.qty.get(), price_or_zero(trade.price));

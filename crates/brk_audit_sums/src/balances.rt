@@ -14,7 +14,7 @@ ghost use Rattle.brk_audit_sums.specs.Sums.{cash_posting_of_trade_row, movement_
 ghost use Rattle.brk_audit_sums.specs.Tally.{sum_at_key};
 
 use crate::account_terms::{AccountTerms, tax_status_of, terms_by_id};
-use crate::amounts::settling_amount;
+use crate::amounts::settlement_amount_of_trade;
 use crate::completion::is_completed;
 use crate::keyed_sum::{KeyedSum, all_match_sums, trade_postings};
 use crate::tally::{KeyedAmount, sum_at, sum_by_key};
@@ -89,7 +89,7 @@ impl KeyedSum for Balances {
             return None;
         }
         let key = trade.account.get();
-        let amount = settling_amount(trade, tax_status_of(terms, trade.account));
+        let amount = settlement_amount_of_trade(trade, tax_status_of(terms, trade.account));
         Some(KeyedAmount { key, amount })
     }
 

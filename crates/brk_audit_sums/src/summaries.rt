@@ -1,5 +1,5 @@
 //! The condition `Summary`, on the holding summaries of positions in shares: a purchase counts
-//! above 0, a sale below.
+//! above 0, a sale below. Also the conjunction of three tests, which the condition `Cash` uses too.
 
 ghost use Rattle.std.specs.Prelude.{◌≡◌, ◌↔◌, false, IfOk, IsTrue, map, option_map};
 ghost use Rattle.std.specs.List.{AllByRecursion, filter_map};
@@ -79,6 +79,7 @@ fn summary_postings<'a>(
     Ok(all)
 }
 
+// Compares the sums at the keys of `postings` only.
 fn sums_agree<K: Ord + Copy>(
     sums: &BTreeMap<K, i128>,
     told: &BTreeMap<K, i128>,

@@ -20,7 +20,7 @@ pub fn upgraded_rows_are_tables_of_their_base()
 
 /// The upgrade merges the cash rows of passing rows into CASH_MOVE by stamp, yielding the tables of
 /// their base.
-pub fn upgrade_yields_tables_of_the_base()
+pub fn upgrade_merges_cash_rows()
     ensures same { (schema : Schema) (rows : Tables) → PassesAudit schema rows → tables_upgraded_from_schema schema rows ≡ tables_with_merged_cash_rows rows }
     ensures tables { (schema : Schema) (rows : Tables) → PassesAudit schema rows → tables_upgraded_from_schema schema rows ≡ sheets (base_of_tables rows) }
 {}

@@ -1,4 +1,5 @@
-//! The texts at the end of the help of each subcommand.
+//! The texts at the end of the help of each subcommand. `tools/generate/help_pages` reads this file
+//! as source: run it after a change.
 
 /// The text after the options in the help of `brk batch`.
 pub const BATCH: &str = "Example:

@@ -1,6 +1,7 @@
 //! The arguments of `brk`: their definitions, and the job that they request. No clause says which
-//! job is read; brk_tests_interfaces tests it. The functions `.._job` read the arguments by the names
-//! that `.._command` and `.._arg` give them. `tools/generate/help_pages` reads this file.
+//! job is read; brk_tests_interfaces tests it. The functions `.._job` read the arguments by the
+//! names that `.._command` and `.._arg` give them. `tools/generate/help_pages` reads this file as
+//! source, and writes the man page and the completions from it: run it after a change.
 
 use crate::job::Job;
 use crate::notes;

@@ -1,3 +1,5 @@
+//! The `ok` of an audit that passed. The audit itself is the opening of the desk.
+
 ghost use Rattle.brk_cli_jobs.specs.Jobs.{WritesAuditOk};
 
 use brk_cli_exit::Ending;

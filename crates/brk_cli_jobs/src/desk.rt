@@ -93,7 +93,8 @@ fn execute_job_and_close<S: Alter, F: DeskFiles<Desk = Store<S>>, R: Read + Drop
     ending_after_close(ending, files.close(store))
 }
 
-fn execute_on_store<S: Alter, F: DeskFiles<Desk = Store<S>>, R: Read + Drop, W: Write>(
+// Closes the file after the job. A job that serves may open it again before a stream.
+fn execute_job_on_file_store<S: Alter, F: DeskFiles<Desk = Store<S>>, R: Read + Drop, W: Write>(
     rt: &HostRuntime,
     files: &F,
     path: &str,
@@ -137,7 +138,7 @@ pub(crate) fn execute_job_on_opened<
         (record { input = R.remaining input; before = W.contents output.old.output; after = W.contents output.new.output }) result }
 {
     match opened {
-        Ok(store) => execute_on_store(rt, files, path, store, job, input, output),
+        Ok(store) => execute_job_on_file_store(rt, files, path, store, job, input, output),
         Err(fault) => Ending::Open(fault),
     }
 }

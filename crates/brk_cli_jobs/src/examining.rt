@@ -1,4 +1,5 @@
-//! A file and its log, examined before the database opens them.
+//! A file and its log, examined before the database opens them. What the numbers of their formats
+//! mean is said in specs/Examined.antt.
 
 ghost use Rattle.std.specs.Prelude.{◌≡◌, ◌↔◌, ◌+◌, ◌<◌, ◌≤◌, length, IsTrue};
 ghost use Rattle.sqlite_wal.specs.Format.{be32};
@@ -38,6 +39,7 @@ fn log_begins_database(log: &[u8]) -> bool
     is_log(log) && read_number(log, 8) == 4096 && read_number(log, 12) == 0xffff_ffff
 }
 
+// The frame at `at` ends a transaction, and has the salts of the log's header.
 fn has_commit_mark(log: &[u8], at: usize) -> bool
     requires header { 32 ≤ length log.now }
     requires frame { at + 24 ≤ length log.now }
@@ -113,6 +115,7 @@ fn read_start(rt: &HostRuntime, path: &str) -> io::Result<Vec<u8>> {
     Ok(start)
 }
 
+// Returns the path of the log, beside the file itself if `path` is a link.
 fn log_path(rt: &HostRuntime, path: &str) -> io::Result<String> {
     match fs::canonicalize(rt, path) {
         Ok(real) => Ok(format!(in rt.alloc(); "{}-wal", real.as_str())?),
@@ -123,6 +126,7 @@ fn log_path(rt: &HostRuntime, path: &str) -> io::Result<String> {
     }
 }
 
+// Reads the whole log, nothing if it is missing. Fails on what is no regular file, and on a link.
 fn read_log(rt: &HostRuntime, path: &str) -> io::Result<Vec<u8>> {
     let path = log_path(rt, path)?;
     match fs::symlink_metadata(rt, path.as_str()) {

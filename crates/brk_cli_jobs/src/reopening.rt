@@ -11,6 +11,7 @@ use brk_view_rows::Query;
 use sqlite::Alter;
 use std::alloc::Global;
 
+// Returns true for `Store`, with which each query on a closed store fails.
 fn is_store(fault: Fault) -> bool
     ensures { result ≡ is_store fault }
 {

@@ -1,4 +1,4 @@
-//! The lines of replies.
+//! The lines of replies, and the text of a day, which rows contain too.
 #![tactic(auto, unfolding(brk_model::specs::Rows::reply_fields))]
 
 ghost use Rattle.std.specs.Prelude.{◌≡◌, ◌∷◌, ◌++◌, [], IfOk, OnOk, OnErr, Err, decimal, drop, string_bytes, take};
@@ -96,6 +96,7 @@ pub fn day_text(alloc: Global, day: Day) -> Result<String, AllocError>
     Ok(text)
 }
 
+// The fields are the commission, the tax and the settlement amount.
 fn append_amounts(line: &mut String, completed: &Completed) -> Result<(), AllocError>
     ensures { OnOk result (string_bytes line.new
         ≡ string_bytes line.old ++ fields_after_separators 44 (take 3 (model.completion_fields (abstract_completion completed.now)))) }

@@ -13,7 +13,7 @@ ghost use Rattle.brk_ref.specs.Fields.{ParsesAs, texts_of_fields};
 ghost use Rattle.brk_desk_commands.specs.Commands.{abstract_command};
 
 use crate::command::Command;
-use crate::parse_order::parse_trade_kinds;
+use crate::parse_order::parse_kinds_from_order;
 use brk_money::{Planned, Refusal};
 use brk_ref::{
     check_account, check_band, check_broker, check_charge, check_customer, check_customer_tax,
@@ -62,6 +62,7 @@ fn permission_command(alloc: Global, fields: &[&[u8]]) -> Planned<Command, Alloc
     }
 }
 
+// Parses the row `security`: a security with its first price.
 fn listing_command(alloc: Global, fields: &[&[u8]]) -> Planned<Command, AllocError>
     ensures { IfOk result (λ read. ParsesAs abstract_command read (read_and_wrap AddSecurity read_listing (texts_of_fields fields.now))) }
 {
@@ -110,9 +111,13 @@ fn customer_tax_command(fields: &[&[u8]]) -> Result<Command, Refusal>
     }
 }
 
-// Parses the other rows that set a desk up and, by `parse_trade_kinds`, all other kinds. Refuses
+// Parses the other rows that set a desk up and, by `parse_kinds_from_order`, all other kinds. Refuses
 // `broker`, `customer` and `account` as unknown kinds: the caller has parsed these.
-fn parse_record_kinds(alloc: Global, kind: &[u8], fields: &[&[u8]]) -> Planned<Command, AllocError>
+fn parse_kinds_from_permission(
+    alloc: Global,
+    kind: &[u8],
+    fields: &[&[u8]],
+) -> Planned<Command, AllocError>
     ensures { IfOk result (λ read. ParsesAs abstract_command read (parse_by_first_field (other_reference_row_parsers ++ order_feed_and_cancel_parsers
         ++ result_row_parsers ++ update_row_parsers ++ movement_and_one_day_settlement_row_parsers) (kind.now
         ∷ texts_of_fields fields.now))) }
@@ -135,10 +140,10 @@ fn parse_record_kinds(alloc: Global, kind: &[u8], fields: &[&[u8]]) -> Planned<C
     if kind == b"custtax".as_slice() {
         return Ok(customer_tax_command(fields));
     }
-    parse_trade_kinds(alloc, kind, fields)
+    parse_kinds_from_order(alloc, kind, fields)
 }
 
-fn parse_kind(alloc: Global, kind: &[u8], fields: &[&[u8]]) -> Planned<Command, AllocError>
+fn parse_any_kind(alloc: Global, kind: &[u8], fields: &[&[u8]]) -> Planned<Command, AllocError>
     ensures { IfOk result (λ read. ParsesAs abstract_command read (parse_by_first_field row_parsers (kind.now ∷ texts_of_fields fields.now))) }
 {
     if kind == b"broker".as_slice() {
@@ -150,7 +155,7 @@ fn parse_kind(alloc: Global, kind: &[u8], fields: &[&[u8]]) -> Planned<Command, 
     if kind == b"account".as_slice() {
         return account_command(alloc, fields);
     }
-    parse_record_kinds(alloc, kind, fields)
+    parse_kinds_from_permission(alloc, kind, fields)
 }
 
 /// Parses the command of a row from its fields, the kind first.
@@ -167,5 +172,5 @@ pub fn parse_row(alloc: Global, fields: &[&[u8]]) -> Planned<Command>
     let [kind, fields @ ..] = fields else {
         return Ok(Err(Refusal::BadText));
     };
-    Ok(parse_kind(alloc, kind, fields)?)
+    Ok(parse_any_kind(alloc, kind, fields)?)
 }

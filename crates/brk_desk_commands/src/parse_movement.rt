@@ -10,12 +10,12 @@ ghost use Rattle.brk_desk_commands.specs.Commands.{abstract_command};
 
 use crate::command::Command;
 use brk_money::Refusal;
-use brk_ref_orders::{Direction, parse_cash_move, parse_one_day};
+use brk_ref_orders::{Direction, parse_cash_movement, parse_one_day};
 
 fn move_command(direction: Direction, fields: &[&[u8]]) -> Result<Command, Refusal>
     ensures { ParsesAs abstract_command result (read_movement_command (cash_movement_command direction) (texts_of_fields fields.now)) }
 {
-    match parse_cash_move(direction, fields) {
+    match parse_cash_movement(direction, fields) {
         Ok(movement) => Ok(Command::Move(movement)),
         Err(refusal) => Err(refusal),
     }

@@ -9,7 +9,7 @@ ghost use Rattle.brk_ref.specs.Fields.{ParsesAs, texts_of_fields};
 ghost use Rattle.brk_desk_commands.specs.Commands.{abstract_command};
 
 use crate::command::Command;
-use crate::parse_update::parse_update_kinds;
+use crate::parse_update::parse_kinds_from_upname;
 use brk_money::{Planned, Refusal};
 use brk_ref_orders::{parse_cancel, parse_completion, parse_market_feed, parse_trade_order};
 use std::alloc::{AllocError, Global};
@@ -50,9 +50,9 @@ fn result_command(fields: &[&[u8]]) -> Result<Command, Refusal>
     }
 }
 
-// Parses `order`, `feed`, `cancel` and `result` and, by `parse_update_kinds`, the kinds after
+// Parses `order`, `feed`, `cancel` and `result` and, by `parse_kinds_from_upname`, the kinds after
 // these.
-pub(crate) fn parse_trade_kinds(
+pub(crate) fn parse_kinds_from_order(
     alloc: Global,
     kind: &[u8],
     fields: &[&[u8]],
@@ -74,5 +74,5 @@ pub(crate) fn parse_trade_kinds(
     if kind == b"result".as_slice() {
         return Ok(result_command(fields));
     }
-    parse_update_kinds(alloc, kind, fields)
+    parse_kinds_from_upname(alloc, kind, fields)
 }

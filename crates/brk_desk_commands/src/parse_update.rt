@@ -44,7 +44,7 @@ fn cash_name_command(alloc: Global, fields: &[&[u8]]) -> Planned<Command, AllocE
 }
 
 // Parses `upname`, `upcash` and `uptext` and, by `parse_movement_kinds`, the kinds after these.
-pub(crate) fn parse_update_kinds(
+pub(crate) fn parse_kinds_from_upname(
     alloc: Global,
     kind: &[u8],
     fields: &[&[u8]],

@@ -66,6 +66,7 @@ fn row_of_permission(alloc: Global, permission: &Permission) -> Result<String, A
     )
 }
 
+// The row `security`: a security with its first price.
 fn row_of_listing(alloc: Global, listing: &Listing) -> Result<String, AllocError>
     ensures { IfOk result (λ row. string_bytes row ≡ model.row_text (AddSecurity (abstract_listing listing.now))) }
 {

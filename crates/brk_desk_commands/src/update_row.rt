@@ -18,7 +18,7 @@ fn append_updated_trade(row: &mut String, trade: Id) -> Result<(), AllocError>
     write!(row, "\x1f{}", trade.get())
 }
 
-fn row_of_executor(alloc: Global, trades: &[Id]) -> Result<String, AllocError>
+fn row_of_executor_update(alloc: Global, trades: &[Id]) -> Result<String, AllocError>
     ensures { IfOk result (λ row. string_bytes row ≡ model.row_text (ChangeExecutors trades.now)) }
 {
     let mut row = String::from_str(alloc, "upname")?;
@@ -28,7 +28,7 @@ fn row_of_executor(alloc: Global, trades: &[Id]) -> Result<String, AllocError>
     Ok(row)
 }
 
-fn row_of_cash_type(alloc: Global, account: Id, span: Span) -> Result<String, AllocError>
+fn row_of_cash_type_update(alloc: Global, account: Id, span: Span) -> Result<String, AllocError>
     ensures { IfOk result (λ row. string_bytes row ≡ model.row_text (ChangeCashTypes account span.first span.last)) }
 {
     format!(in alloc;
@@ -39,7 +39,7 @@ fn row_of_cash_type(alloc: Global, account: Id, span: Span) -> Result<String, Al
     )
 }
 
-fn row_of_cash_name(alloc: Global, symbol: &Symbol, span: Span) -> Result<String, AllocError>
+fn row_of_cash_name_update(alloc: Global, symbol: &Symbol, span: Span) -> Result<String, AllocError>
     ensures { IfOk result (λ row. string_bytes row ≡ model.row_text (ChangeCashNames symbol.now span.first span.last)) }
 {
     format!(in alloc;
@@ -55,8 +55,8 @@ pub fn row_of_update(alloc: Global, update: &Update) -> Result<String, AllocErro
     ensures { IfOk result (λ row. string_bytes row ≡ model.row_text (text_update_command update.now)) }
 {
     match update {
-        Update::Executors(trades) => row_of_executor(alloc, trades.ids()),
-        Update::CashTypes { account, span } => row_of_cash_type(alloc, *account, *span),
-        Update::CashNames { symbol, span } => row_of_cash_name(alloc, symbol, *span),
+        Update::Executors(trades) => row_of_executor_update(alloc, trades.ids()),
+        Update::CashTypes { account, span } => row_of_cash_type_update(alloc, *account, *span),
+        Update::CashNames { symbol, span } => row_of_cash_name_update(alloc, symbol, *span),
     }
 }

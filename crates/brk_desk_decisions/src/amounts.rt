@@ -1,13 +1,12 @@
 //! The amounts that the estimate of an order needs.
 
 ghost use Rattle.std.specs.Prelude.{◌≡◌, ◌+ℤ◌, IfSome};
-ghost use Rattle.brk_trade_books.specs.Reads.{customer_tax_rate_sum};
 ghost use Rattle.brk_desk_decisions.specs.OrderFactReads.{AreAssetsAndSharesOfAccount, EstimateAmountsMatchTables};
 ghost use Rattle.brk_store_transactions.specs.Holds.{ReadPost};
 
 use crate::summary_finding::symbol_shares;
-use crate::terms::checked_tax_rate_sum;
-use brk_money::{CallFault, Cents, Id, TaxRate, Wide};
+use crate::terms::require_tax_rate_sum;
+use brk_money::{CallFault, Cents, TaxRate, Wide};
 use brk_ref::{AccountRow, Symbol};
 use brk_ref_orders::Order;
 use brk_store::Store;
@@ -25,21 +24,6 @@ pub struct Amounts {
     /// The number of shares of the order's symbol that the account holds in total (HS_QTY), below 0
     /// if it sold them short, or `None` if it has no summary of the symbol.
     pub summary: Option<i64>,
-}
-
-// The sum is in hundred-thousandths. Fails with `Store` also if one of the customer's taxes does
-// not exist, or if the sum exceeds the greatest rate.
-pub(crate) fn require_tax_rate_sum<S: Alter>(
-    alloc: Global,
-    store: &mut Store<S>,
-    customer: Id,
-) -> Result<TaxRate, CallFault>
-    ensures { ReadPost S.Store store.old store.new result (λ rates t. rates ≡ customer_tax_rate_sum t customer) }
-{
-    match checked_tax_rate_sum(alloc, store, customer)? {
-        Some(rates) => Ok(rates),
-        None => Err(CallFault::Store),
-    }
 }
 
 // Returns `None` if the sum overflows.
@@ -74,7 +58,7 @@ fn read_account_amounts<S: Alter>(
 
 // Reads the amounts for the estimate of `order`. Fails with `Store` also as `require_tax_rate_sum`
 // and `read_account_amounts` do.
-pub(crate) fn estimate_amounts<S: Alter>(
+pub(crate) fn read_order_amounts<S: Alter>(
     alloc: Global,
     store: &mut Store<S>,
     account: &AccountRow,

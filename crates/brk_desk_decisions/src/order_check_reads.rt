@@ -1,4 +1,5 @@
-//! Reads of the facts that the checks of an order test, if its account exists.
+//! Reads of the facts that the checks of an order test, if its account exists; and the commission
+//! rate of a quantity by its band, which a result needs too.
 
 ghost use Rattle.std.specs.Prelude.{◌≡◌, IfSome, option_map};
 ghost use Rattle.brk_money.specs.OrderTypes.{trade_type_of_order_type};
@@ -45,7 +46,7 @@ fn read_last_price<S: Alter>(
 }
 
 // Of the account's permissions, only that for the executor's tax id can permit the executor.
-fn may_execute<S: Alter>(
+fn is_executor_permitted<S: Alter>(
     store: &mut Store<S>,
     account: Id,
     customer: &Customer,
@@ -127,7 +128,7 @@ pub(crate) fn order_check_facts<S: Alter>(
 {
     let tier = customer.tier;
     let last_price = read_last_price(store, &order.symbol)?;
-    let is_permitted = may_execute(store, order.account, customer, &order.executor)?;
+    let is_permitted = is_executor_permitted(store, order.account, customer, &order.executor)?;
     let charge = charge_of_tier(store, order.order_type.kind(), tier)?;
     let rate = read_order_rate(alloc, store, order, tier)?;
     Ok(OrderCheckFacts {

@@ -5,7 +5,7 @@ ghost use Rattle.brk_trade_theorems.specs.OrderPlans.{EstimateFactsMatchTables, 
 ghost use Rattle.brk_desk_decisions.specs.OrderFactReads.{EstimateFactsMatchIfAccountOfOrder, facts_with_account, facts_without_account};
 ghost use Rattle.brk_store_transactions.specs.Holds.{ReadPost};
 
-use crate::amounts::{Amounts, estimate_amounts};
+use crate::amounts::{Amounts, read_order_amounts};
 use crate::order_check_reads::{OrderCheckFacts, order_check_facts};
 use brk_money::{CallFault, TaxRate, Wide};
 use brk_ref::AccountRow;
@@ -56,7 +56,7 @@ fn facts_with_account(
     }
 }
 
-// Fails with `Store` also if the account's customer does not exist, and as `estimate_amounts` does.
+// Fails with `Store` also if the account's customer does not exist, and as `read_order_amounts` does.
 fn estimate_facts_of_account<S: Alter>(
     alloc: Global,
     store: &mut Store<S>,
@@ -67,7 +67,7 @@ fn estimate_facts_of_account<S: Alter>(
 {
     let customer = require_customer(store, account.account.customer)?;
     let tested = order_check_facts(alloc, store, order, &customer)?;
-    let amounts = estimate_amounts(alloc, store, account, order)?;
+    let amounts = read_order_amounts(alloc, store, account, order)?;
     Ok(facts_with_account(account, tested, amounts))
 }
 

@@ -6,7 +6,7 @@ ghost use Rattle.brk_model.specs.Joins.{account_row_with_id};
 ghost use Rattle.brk_store_transactions.specs.Holds.{ReadPost};
 ghost use Rattle.brk_ref.specs.Records.{abstract_account_row};
 
-use crate::amounts::require_tax_rate_sum;
+use crate::terms::require_tax_rate_sum;
 use brk_money::{CallFault, Id};
 use brk_ref::AccountRow;
 use brk_store::Store;

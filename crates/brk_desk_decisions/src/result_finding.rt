@@ -48,7 +48,7 @@ fn posting_facts<S: Alter>(store: &mut Store<S>) -> Result<Posting, CallFault>
 }
 
 // If a check of the result fails, the facts that are needed only after it may have any value.
-fn trade_facts<S: Alter>(
+fn result_facts_of_row<S: Alter>(
     alloc: Global,
     store: &mut Store<S>,
     trade: TradeRow,
@@ -82,7 +82,7 @@ pub(crate) fn facts_of_result<S: Alter>(
 {
     match store.trade(trade)? {
         Some(row) => {
-            let found = trade_facts(alloc, store, row)?;
+            let found = result_facts_of_row(alloc, store, row)?;
             Ok(Some(found))
         }
         None => Ok(None),

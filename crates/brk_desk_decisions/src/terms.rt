@@ -78,6 +78,21 @@ pub(crate) fn checked_tax_rate_sum<S: Alter>(
     Ok(tax_sum(&taxes))
 }
 
+// The sum is in hundred-thousandths. Fails with `Store` also if one of the customer's taxes does
+// not exist, or if the sum exceeds the greatest rate.
+pub(crate) fn require_tax_rate_sum<S: Alter>(
+    alloc: Global,
+    store: &mut Store<S>,
+    customer: Id,
+) -> Result<TaxRate, CallFault>
+    ensures { ReadPost S.Store store.old store.new result (λ rates t. rates ≡ customer_tax_rate_sum t customer) }
+{
+    match checked_tax_rate_sum(alloc, store, customer)? {
+        Some(rates) => Ok(rates),
+        None => Err(CallFault::Store),
+    }
+}
+
 pub(crate) fn permission_facts<S: Alter>(
     store: &mut Store<S>,
     permission: &Permission,

@@ -27,7 +27,7 @@ fn read_cash_types<S: Alter>(
     ensures { ReadPost S.Store store.old store.new result
         (λ settled t. SettlementTextsMatchTables t (chosen.first_twenty_completed_trade_rows_of_account account span.first span.last t) settled.items) }
 {
-    let trades = store.completed_trades_of_account(alloc, account, span)?;
+    let trades = store.twenty_completed_trades(alloc, account, span)?;
     let mut settled = Vec::new(alloc);
     for trade in &trades {
         let cash_type = cash_type_of(store, trade.id)?;
@@ -50,7 +50,7 @@ fn read_cash_names<S: Alter>(
     ensures { ReadPost S.Store store.old store.new result
         (λ paid t. CashTextsMatchTables t (chosen.first_twenty_completed_cash_trade_rows_of_symbol symbol.now span.first span.last t) paid.items) }
 {
-    let trades = store.completed_cash_trades_of_symbol(alloc, symbol, span)?;
+    let trades = store.twenty_completed_cash_trades(alloc, symbol, span)?;
     let mut paid = Vec::new(alloc);
     for trade in &trades {
         let name = cash_name_of(store, trade.id)?;
@@ -77,7 +77,7 @@ pub(crate) fn executor_facts<S: Alter>(
     }
 }
 
-// The same read as `finding::account_exists`, with the clause that updates need.
+// The same read as `reference_finding::account_exists`, with the clause that updates need.
 fn account_row_exists<S: Alter>(store: &mut Store<S>, account: Id) -> Result<bool, CallFault>
     ensures { ReadPost S.Store store.old store.new result (λ there t. there ≡ is_some (account_row_with_id t account)) }
 {

@@ -24,7 +24,7 @@ fn require_broker_name<S: Alter>(store: &mut Store<S>, id: Id) -> Result<Name, C
 }
 
 // Adds to `trades` the names of the account's customer and broker.
-pub(crate) fn account_status<S: Alter>(
+pub(crate) fn status_with_parties<S: Alter>(
     store: &mut Store<S>,
     row: &AccountRow,
     trades: Vec<TradeStatus>,

@@ -25,7 +25,7 @@ fn append_history_rows(history: &mut Vec<HistoryRow>, rows: &[HistoryRow]) -> Re
 }
 
 // Returns the last ten trades, and the status changes of all of them.
-fn recent_trades<S: Alter>(
+fn recent_trades_with_history<S: Alter>(
     alloc: Global,
     store: &mut Store<S>,
     account: Id,
@@ -56,7 +56,7 @@ pub fn recent_view<S: Alter>(
     let Some(found) = store.account(account)? else {
         return Ok(Err(Refusal::NoAccount));
     };
-    let (trades, history) = recent_trades(alloc, store, account)?;
+    let (trades, history) = recent_trades_with_history(alloc, store, account)?;
     match recent(alloc, trades, history) {
         Ok(view) => Ok(Ok(view)),
         Err(_) => Err(CallFault::Memory),

@@ -8,7 +8,7 @@ ghost use Rattle.brk_model.specs.Queries.{StatusOf};
 ghost use Rattle.brk_store_transactions.specs.Holds.{ReadPost};
 ghost use Rattle.brk_view_rows.specs.Status.{rows_of_trade_status, trade_row_with_security};
 
-use crate::parties::account_status;
+use crate::parties::status_with_parties;
 use brk_money::{CallFault, Id, Planned, Refusal};
 use brk_ref::{Security, Symbol, TradeRow};
 use brk_store::Store;
@@ -93,6 +93,6 @@ pub fn status_view<S: Alter>(
         return Ok(Err(Refusal::NoAccount));
     };
     let trades = fifty_trades_with_securities(alloc, store, account)?;
-    let found = account_status(store, &row, trades)?;
+    let found = status_with_parties(store, &row, trades)?;
     Ok(Ok(status(found)))
 }

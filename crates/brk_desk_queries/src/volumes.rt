@@ -60,6 +60,7 @@ fn append_sector_request<S: Alter>(
     Ok(())
 }
 
+// Returns copies of the requests of `broker` for securities of the sector.
 fn sector_requests<S: Alter>(
     alloc: Global,
     store: &mut Store<S>,

@@ -10,9 +10,11 @@ ghost use Rattle.brk_report_lines.specs.Written.{WritesLines};
 use crate::parse::ExplainRequest;
 use crate::sections::{write_commissions, write_open_lots, write_postings};
 use brk_desk::Desk;
-use brk_explain_lines::{account_end_text, header_text, lots_head_text, trade_explanation_text};
+use brk_explain_lines::{
+    account_end_text, account_header_text, lots_head_text, trade_explanation_text,
+};
 use brk_explain_rows::{AccountDetails, BrokerDetails};
-use brk_explain_sums::{broker_end_text, broker_head, holding_explanation_text};
+use brk_explain_sums::{broker_end_text, broker_header_text, holding_explanation_text};
 use brk_money::{Id, Refusal};
 use brk_ref::Symbol;
 use brk_report_lines::{LinesFault, ReportFault, write_lines};
@@ -51,7 +53,7 @@ fn write_account_lines<W: Write, S: Alter>(
         (λ t. WritesLines (all_account_lines t account details.now) (W.contents writer.old) (W.contents writer.new) result) }
 {
     let row = &details.account;
-    write_lines(writer, header_text(alloc, row))?;
+    write_lines(writer, account_header_text(alloc, row))?;
     let cash = write_postings(alloc, desk, account, row.account.opening, writer)?;
     write_lines(writer, lots_head_text(alloc, row))?;
     let lots = write_open_lots(alloc, desk, account, writer)?;
@@ -111,7 +113,7 @@ fn write_broker_lines<W: Write, S: Alter>(
         (λ t. WritesLines (all_broker_lines t broker details.now) (W.contents writer.old) (W.contents writer.new) result) }
 {
     let row = &details.broker;
-    write_lines(writer, broker_head(alloc, row))?;
+    write_lines(writer, broker_header_text(alloc, row))?;
     let trades = write_commissions(alloc, desk, broker, writer)?;
     write_lines(
         writer,

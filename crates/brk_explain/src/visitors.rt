@@ -4,7 +4,7 @@
 
 use brk_desk::Visitor;
 use brk_explain_lines::{open_lot_text, posting_text};
-use brk_explain_sums::commission_text;
+use brk_explain_sums::trade_commission_text;
 use brk_money::{CallFault, Wide};
 use brk_ref::{CashRow, HoldingRow, TradeRow};
 use brk_report::totals::{plus_amount, plus_commission};
@@ -130,7 +130,7 @@ impl<W: Write> Visitor<TradeRow, LinesFault> for TradeCommissionWriter<'_, W> {
         let Some(count) = self.count.checked_add(1) else {
             return Err(LinesFault::Desk(CallFault::Store));
         };
-        write_line(self.writer, commission_text(self.alloc, item, total))?;
+        write_line(self.writer, trade_commission_text(self.alloc, item, total))?;
         self.total = total;
         self.count = count;
         Ok(())

@@ -34,7 +34,7 @@ pub fn shares_value(shares: i64, price: Price) -> Result<Wide, StoreFailed>
 }
 
 /// Fails with `Store` above the greatest `i128`.
-pub fn wide_of_cents(cents: u128) -> Result<Wide, StoreFailed>
+pub fn wide_of_u128(cents: u128) -> Result<Wide, StoreFailed>
     ensures { IfOk result (λ amount. amount ≡ pos cents) }
 {
     match i128::try_from(cents) {

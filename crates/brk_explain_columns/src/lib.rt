@@ -7,10 +7,10 @@ pub mod pieces;
 pub mod row_columns;
 pub mod timestamps;
 
-pub use amounts::{add_amounts, cents_of_wide, shares_value, subtract_amounts, wide_of_cents};
+pub use amounts::{add_amounts, cents_of_wide, shares_value, subtract_amounts, wide_of_u128};
 pub use facts::{
-    label_amount, label_number, label_text, put_amount_fact, put_day_fact, put_label,
-    put_number_fact, put_signed_fact, put_text_fact, put_value_fact,
+    put_amount_fact, put_day_fact, put_label, put_labeled_amount, put_labeled_number,
+    put_labeled_text, put_number_fact, put_signed_fact, put_text_fact, put_value_fact,
 };
 pub use pieces::{
     align_cents, align_integer, align_number, end_line, put_column, put_numbered, put_spaced_line,

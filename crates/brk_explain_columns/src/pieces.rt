@@ -8,7 +8,7 @@ ghost use Rattle.brk_money.specs.Spelling.{cents_text};
 ghost use Rattle.brk_report_lines.specs.Written.{line_with_line_feed};
 
 use brk_money::{Id, Wide, append_cents};
-use brk_report_lines::append_right;
+use brk_report_lines::append_right_aligned;
 use itoa::Buffer;
 use std::alloc::{AllocError, Global};
 
@@ -54,6 +54,7 @@ pub fn put_decimal(out: &mut Vec<u8>, n: u64) -> Result<(), AllocError>
     put_text(out, buffer.format(n).as_bytes())
 }
 
+/// Appends a text and a number in decimal digits after it, without a space of its own.
 pub fn put_numbered(out: &mut Vec<u8>, text: &str, n: u64) -> Result<(), AllocError>
     ensures { OnOk result (out.new.items ≡ out.old.items ++ text.now ++ decimal n) }
 {
@@ -75,7 +76,7 @@ pub fn put_column(out: &mut Vec<u8>, places: usize, text: &[u8]) -> Result<(), A
     ensures { OnOk result (out.new.items ≡ out.old.items ++ 32 ∷ right_aligned_text places text.now) }
 {
     out.push(b' ')?;
-    append_right(out, places, text)
+    append_right_aligned(out, places, text)
 }
 
 pub fn align_number(out: &mut Vec<u8>, places: usize, n: u64) -> Result<(), AllocError>

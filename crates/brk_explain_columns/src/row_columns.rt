@@ -11,14 +11,14 @@ ghost use Rattle.brk_model.specs.Statement.{left_aligned_text, right_aligned_tex
 use crate::pieces::{align_cents, align_integer, align_number, put_spaced_text};
 use crate::timestamps::put_timestamp;
 use brk_money::{Id, Price, Stamp, Wide};
-use brk_report_lines::append_left;
+use brk_report_lines::append_left_aligned;
 use std::alloc::{AllocError, Global};
 
 /// Appends a word in 6 places and a date and time in UTC.
 pub fn put_dated_word(out: &mut Vec<u8>, word: &str, stamp: Stamp) -> Result<(), AllocError>
     ensures { OnOk result (out.new.items ≡ out.old.items ++ left_aligned_text 6 word.now ++ 32 ∷ timestamp_text stamp) }
 {
-    append_left(out, 6, word.as_bytes())?;
+    append_left_aligned(out, 6, word.as_bytes())?;
     out.push(b' ')?;
     put_timestamp(out, stamp)
 }
@@ -75,7 +75,7 @@ pub fn put_undated_row_start(
 ) -> Result<(), AllocError>
     ensures { OnOk result (out.new.items ≡ out.old.items ++ leading_row_columns word.now blank_timestamp_text id shares price) }
 {
-    append_left(out, 6, word.as_bytes())?;
+    append_left_aligned(out, 6, word.as_bytes())?;
     put_blank_stamp(out)?;
     align_id_shares_price(alloc, out, id, shares, price)
 }

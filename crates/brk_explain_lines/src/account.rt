@@ -16,7 +16,7 @@ use brk_explain_columns::{
 use brk_explain_rows::PricedHolding;
 use brk_money::{CallFault, Cents, Id, Price, StoreFailed, Wide};
 use brk_ref::{AccountRow, CashRow, HoldingRow};
-use brk_report_lines::{append_left, lot_line};
+use brk_report_lines::{append_left_aligned, lot_line};
 use std::alloc::{AllocError, Global};
 
 #[tactic(auto, unfolding(brk_model_explain::specs::AccountLines::account_header_lines))]
@@ -37,7 +37,7 @@ fn put_header(alloc: Global, out: &mut Vec<u8>, row: &AccountRow) -> Result<(), 
 }
 
 /// Returns the lines before the cash rows, from the title to the column headings.
-pub fn header_text(alloc: Global, row: &AccountRow) -> Result<Vec<u8>, AllocError>
+pub fn account_header_text(alloc: Global, row: &AccountRow) -> Result<Vec<u8>, AllocError>
     ensures { IfOk result (λ text. text.items ≡ text_of_lines (lines.account_header_lines (abstract_account_row row.now))) }
 {
     let mut text = Vec::new(alloc);
@@ -80,6 +80,7 @@ pub fn posting_text(alloc: Global, row: &CashRow, balance: Wide) -> Result<Vec<u
     Ok(line)
 }
 
+// Writes also the line of the balance.
 #[tactic(auto, unfolding(brk_model_explain::specs::AccountLines::balance_and_lot_header_lines))]
 fn put_lots_head(alloc: Global, out: &mut Vec<u8>, row: &AccountRow) -> Result<(), AllocError>
     ensures { OnOk result (out.new.items ≡ out.old.items ++ text_of_lines (lines.balance_and_lot_header_lines (abstract_account_row row.now))) }
@@ -100,10 +101,11 @@ pub fn lots_head_text(alloc: Global, row: &AccountRow) -> Result<Vec<u8>, AllocE
     Ok(text)
 }
 
+// `lot` is the line of the lot as in a statement, with its line feed.
 fn put_lot_columns(out: &mut Vec<u8>, lot: &[u8]) -> Result<(), AllocError>
     ensures { OnOk result (out.new.items ≡ out.old.items ++ left_aligned_text 6 (codes "Lot") ++ 32 ∷ lot.now) }
 {
-    append_left(out, 6, b"Lot")?;
+    append_left_aligned(out, 6, b"Lot")?;
     put_spaced_text(out, lot)
 }
 
@@ -138,16 +140,16 @@ fn market_value_of_holdings(all: &[PricedHolding]) -> Result<Wide, StoreFailed>
 
 // The column of the lot ids is empty in the line of a holding.
 #[tactic(auto, unfolding(brk_model_explain::specs::AccountLines::holding_line_start))]
-fn put_line_start(out: &mut Vec<u8>, symbol: &[u8]) -> Result<(), AllocError>
+fn put_holding_line_start(out: &mut Vec<u8>, symbol: &[u8]) -> Result<(), AllocError>
     ensures { OnOk result (out.new.items ≡ out.old.items ++ lines.holding_line_start symbol.now) }
 {
     put_text(out, b"Held   ")?;
-    append_left(out, 15, symbol)?;
+    append_left_aligned(out, 15, symbol)?;
     put_column(out, 13, b"")
 }
 
 #[tactic(auto, unfolding(brk_model_explain::specs::AccountLines::quantity_and_price_columns))]
-fn align_position(
+fn align_qty_with_price(
     alloc: Global,
     out: &mut Vec<u8>,
     qty: i64,
@@ -164,8 +166,8 @@ fn put_holding(alloc: Global, out: &mut Vec<u8>, held: &PricedHolding) -> Result
     ensures { OnOk result (out.new.items ≡ out.old.items ++ line_with_line_feed (lines.holding_line (abstract_priced_holding held.now))) }
 {
     let worth = market_value_of_holding(held)?;
-    put_line_start(out, held.summary.symbol.as_str().as_bytes())?;
-    align_position(alloc, out, held.summary.qty, held.price)?;
+    put_holding_line_start(out, held.summary.symbol.as_str().as_bytes())?;
+    align_qty_with_price(alloc, out, held.summary.qty, held.price)?;
     align_amount(alloc, out, worth)?;
     Ok(end_line(out)?)
 }

@@ -8,9 +8,9 @@ ghost use Rattle.brk_explain_rows.specs.Details.{abstract_order_details, abstrac
 ghost use Rattle.brk_model.specs.Statement.{text_of_lines};
 ghost use Rattle.brk_report_lines.specs.Written.{line_with_line_feed};
 
-use crate::sums::balance_change_of_trade;
+use crate::amounts::balance_change_of_trade;
 use brk_explain_columns::{
-    add_amounts, end_line, label_number, put_amount_fact, put_numbered, put_spaced_line,
+    add_amounts, end_line, put_amount_fact, put_labeled_number, put_numbered, put_spaced_line,
     put_value_fact,
 };
 use brk_explain_rows::{OrderDetails, ResultDetails};
@@ -25,7 +25,7 @@ fn put_cash_row(out: &mut Vec<u8>, row: &Option<CashRow>) -> Result<(), AllocErr
     let Some(row) = row else {
         return put_value_fact(out, "Cash row", b"none");
     };
-    label_number(out, "Cash row", row.id.get())?;
+    put_labeled_number(out, "Cash row", row.id.get())?;
     put_spaced_line(out, row.name.as_bytes())
 }
 

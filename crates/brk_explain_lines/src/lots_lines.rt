@@ -9,19 +9,20 @@ ghost use Rattle.brk_explain_rows.specs.Details.{abstract_closing, abstract_orde
 ghost use Rattle.brk_model.specs.Statement.{text_of_lines};
 ghost use Rattle.brk_report_lines.specs.Written.{line_with_line_feed};
 
-use crate::sums::{
+use crate::amounts::{
     buy_value_of_closing, buy_value_of_closings, sell_value_of_closing, sell_value_of_closings,
     shares_of_closing, total_closed_shares,
 };
 use brk_explain_columns::{
     align_shares, align_value, end_line, put_amount_fact, put_number_fact, put_row_start,
-    put_text_line, subtract_amounts, wide_of_cents,
+    put_text_line, subtract_amounts, wide_of_u128,
 };
 use brk_explain_rows::{Closing, OrderDetails, ResultDetails};
 use brk_money::{CallFault, Price, Side, Wide};
 use brk_ref::{LotChange, TradeRow};
 use std::alloc::{AllocError, Global};
 
+// Writes the line of the price, and the column headings of the lots.
 #[tactic(auto, unfolding(brk_model_explain::specs::TradeLines::price_and_lot_header_lines))]
 fn put_close_head(
     alloc: Global,
@@ -48,8 +49,8 @@ fn put_closing(
 ) -> Result<(), CallFault>
     ensures { OnOk result (out.new.items ≡ out.old.items ++ line_with_line_feed (lines.lot_closing_line side price (abstract_closing closing.now))) }
 {
-    let bought = wide_of_cents(buy_value_of_closing(side, price, closing))?;
-    let sold = wide_of_cents(sell_value_of_closing(side, price, closing))?;
+    let bought = wide_of_u128(buy_value_of_closing(side, price, closing))?;
+    let sold = wide_of_u128(sell_value_of_closing(side, price, closing))?;
     let shares = i128::from(shares_of_closing(closing));
     put_row_start(
         alloc,
@@ -97,6 +98,7 @@ fn put_opened_line(
     end_line(out)
 }
 
+// Writes no line if the trade opened no lot.
 #[tactic(auto, unfolding(brk_model_explain::specs::TradeLines::opened_lot_lines))]
 fn put_opened_lot(
     alloc: Global,

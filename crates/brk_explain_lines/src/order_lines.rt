@@ -1,5 +1,5 @@
-//! The lines of a trade as ordered, and of its status changes. The functions fail with `Memory` only, and may then have
-//! appended a part.
+//! The lines of a trade as ordered, and of its status changes. The functions fail with `Memory`
+//! only, and may then have appended a part.
 
 ghost use Rattle.std.specs.Prelude.{◌≡◌, ◌++◌, OnOk, map};
 ghost use Rattle.brk_ref.specs.Rows.{abstract_history_row};
@@ -9,13 +9,13 @@ ghost use Rattle.brk_model.specs.Statement.{text_of_lines};
 ghost use Rattle.brk_report_lines.specs.Written.{line_with_line_feed};
 
 use brk_explain_columns::{
-    label_number, label_text, put_amount_fact, put_dated_word, put_label, put_number_fact,
-    put_spaced_line, put_spaced_text, put_text_fact, put_title_line,
+    put_amount_fact, put_dated_word, put_label, put_labeled_number, put_labeled_text,
+    put_number_fact, put_spaced_line, put_spaced_text, put_text_fact, put_title_line,
 };
 use brk_explain_rows::OrderDetails;
 use brk_money::Wide;
 use brk_ref::{HistoryRow, cash_or_margin_word};
-use brk_report_lines::append_left;
+use brk_report_lines::append_left_aligned;
 use std::alloc::{AllocError, Global};
 
 #[tactic(auto, unfolding(brk_model_explain::specs::TradeLines::status_change_line))]
@@ -39,7 +39,7 @@ fn put_statuses(out: &mut Vec<u8>, rows: &[HistoryRow]) -> Result<(), AllocError
 fn put_account(out: &mut Vec<u8>, order: &OrderDetails) -> Result<(), AllocError>
     ensures { OnOk result (out.new.items ≡ out.old.items ++ line_with_line_feed (lines.trade_account_line (abstract_order_details order.now))) }
 {
-    label_number(out, "Account", order.trade.account.get())?;
+    put_labeled_number(out, "Account", order.trade.account.get())?;
     put_spaced_line(out, order.account.account.name.as_str().as_bytes())
 }
 
@@ -59,7 +59,7 @@ fn put_title_with_parties(out: &mut Vec<u8>, order: &OrderDetails) -> Result<(),
 fn put_trade_type(out: &mut Vec<u8>, order: &OrderDetails) -> Result<(), AllocError>
     ensures { OnOk result (out.new.items ≡ out.old.items ++ line_with_line_feed (lines.trade_type_line (abstract_order_details order.now))) }
 {
-    label_text(out, "Type", order.trade.kind.code().as_bytes())?;
+    put_labeled_text(out, "Type", order.trade.kind.code().as_bytes())?;
     put_spaced_line(out, order.trade.kind.name().as_bytes())
 }
 
@@ -68,7 +68,7 @@ fn put_security(out: &mut Vec<u8>, order: &OrderDetails) -> Result<(), AllocErro
     ensures { OnOk result (out.new.items ≡ out.old.items ++ line_with_line_feed (lines.trade_security_line (abstract_order_details order.now))) }
 {
     put_label(out, "Security")?;
-    append_left(out, 15, order.trade.symbol.as_str().as_bytes())?;
+    append_left_aligned(out, 15, order.trade.symbol.as_str().as_bytes())?;
     put_spaced_line(out, order.security.name.as_str().as_bytes())
 }
 

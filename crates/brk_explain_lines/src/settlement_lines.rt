@@ -10,7 +10,9 @@ ghost use Rattle.brk_model.specs.Statement.{text_of_lines};
 ghost use Rattle.brk_money.specs.Spelling.{day_text};
 ghost use Rattle.brk_report_lines.specs.Written.{line_with_line_feed};
 
-use crate::sums::{less_charge, less_commission, less_tax, signed_trade_value};
+use crate::amounts::{
+    negated_charge, negated_commission, negated_withheld_tax, signed_trade_value,
+};
 use brk_explain_columns::{put_amount_fact, put_day_fact, put_number_fact, put_text_fact};
 use brk_explain_rows::{OrderDetails, ResultDetails};
 use brk_money::{Day, Wide, day_of};
@@ -29,9 +31,9 @@ pub(crate) fn put_settlement(
         ≡ out.old.items ++ text_of_lines (lines.trade_settlement_lines (abstract_order_details order.now) (abstract_result_details details.now))) }
 {
     put_amount_fact(alloc, out, "Value", signed_trade_value(order, details))?;
-    put_amount_fact(alloc, out, "Charge", less_charge(order))?;
-    put_amount_fact(alloc, out, "Commission", less_commission(order))?;
-    put_amount_fact(alloc, out, "Tax withheld", less_tax(order))?;
+    put_amount_fact(alloc, out, "Charge", negated_charge(order))?;
+    put_amount_fact(alloc, out, "Commission", negated_commission(order))?;
+    put_amount_fact(alloc, out, "Tax withheld", negated_withheld_tax(order))?;
     put_amount_fact(
         alloc,
         out,
@@ -46,7 +48,7 @@ pub(crate) fn put_settlement(
     Ok(())
 }
 
-fn put_some_day(out: &mut Vec<u8>, label: &str, day: Option<Day>) -> Result<(), AllocError>
+fn put_optional_day(out: &mut Vec<u8>, label: &str, day: Option<Day>) -> Result<(), AllocError>
     ensures { OnOk result (out.new.items ≡ out.old.items ++ line_with_line_feed (labeled_text label.now (option_map_or day_text day (codes "none")))) }
 {
     match day {
@@ -69,7 +71,7 @@ pub(crate) fn put_due_days(
     let completed = day_of(order.trade.stamp);
     let days = days_to_settlement(details.rule, completed);
     put_day_fact(out, "Completed on", completed)?;
-    put_some_day(out, "One day from", details.rule)?;
+    put_optional_day(out, "One day from", details.rule)?;
     put_number_fact(out, "Days to settle", u64::from(days))?;
     put_day_fact(out, "Due on", details.settlement.due_day)
 }

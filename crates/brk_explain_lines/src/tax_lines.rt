@@ -9,15 +9,15 @@ ghost use Rattle.brk_model.specs.Statement.{text_of_lines};
 ghost use Rattle.brk_ref.specs.Records.{abstract_band, abstract_tax_rate};
 ghost use Rattle.brk_report_lines.specs.Written.{line_with_line_feed};
 
-use crate::sums::{current_commission, sum_of_tax_rates, tax_at_current_rates};
+use crate::amounts::{current_commission, sum_of_tax_rates, tax_at_current_rates};
 use brk_explain_columns::{
-    align_number, end_line, label_number, put_amount_fact, put_number_fact, put_numbered,
+    align_number, end_line, put_amount_fact, put_labeled_number, put_number_fact, put_numbered,
     put_spaced_line, put_text, put_text_line, put_value_fact,
 };
 use brk_explain_rows::{OrderDetails, ResultDetails};
 use brk_money::{Amount, CallFault, TaxRate, Wide};
 use brk_ref::{Band, Tax};
-use brk_report_lines::append_left;
+use brk_report_lines::append_left_aligned;
 use std::alloc::{AllocError, Global};
 
 // Writes the rate in hundred-thousandths.
@@ -25,7 +25,7 @@ use std::alloc::{AllocError, Global};
 fn put_tax_rate(out: &mut Vec<u8>, rate: &Tax) -> Result<(), AllocError>
     ensures { OnOk result (out.new.items ≡ out.old.items ++ line_with_line_feed (lines.tax_rate_line (abstract_tax_rate rate.now))) }
 {
-    append_left(out, 6, b"Rate")?;
+    append_left_aligned(out, 6, b"Rate")?;
     align_number(out, 13, rate.id.get())?;
     align_number(out, 11, u64::from(rate.rate.get()))?;
     put_spaced_line(out, rate.name.as_str().as_bytes())
@@ -51,7 +51,7 @@ fn put_tax_status(out: &mut Vec<u8>, order: &OrderDetails) -> Result<(), AllocEr
 fn put_rate_sum(out: &mut Vec<u8>, rates: TaxRate) -> Result<(), AllocError>
     ensures { OnOk result (out.new.items ≡ out.old.items ++ line_with_line_feed (labeled_number (codes "Rates now") rates ++ codes " of 100000")) }
 {
-    label_number(out, "Rates now", u64::from(rates.get()))?;
+    put_labeled_number(out, "Rates now", u64::from(rates.get()))?;
     put_text_line(out, b" of 100000")
 }
 
@@ -96,6 +96,7 @@ fn put_band_bounds(out: &mut Vec<u8>, band: &Band) -> Result<(), AllocError>
     put_numbered(out, " to ", u64::from(band.to_qty.get()))
 }
 
+// Writes a text such as `, tier 1, NYSE`.
 #[tactic(auto, unfolding(brk_model_explain::specs::TradeLines::band_tier_and_exchange_text))]
 fn put_band_market(out: &mut Vec<u8>, band: &Band) -> Result<(), AllocError>
     ensures { OnOk result (out.new.items ≡ out.old.items ++ lines.band_tier_and_exchange_text (abstract_band band.now)) }
@@ -112,7 +113,7 @@ fn put_band(out: &mut Vec<u8>, band: &Option<Band>) -> Result<(), AllocError>
     let Some(band) = band else {
         return put_value_fact(out, "Band now", b"none");
     };
-    label_number(out, "Band now", u64::from(band.rate.get()))?;
+    put_labeled_number(out, "Band now", u64::from(band.rate.get()))?;
     put_band_bounds(out, band)?;
     put_band_market(out, band)?;
     end_line(out)

@@ -10,7 +10,7 @@ ghost use Rattle.brk_model.specs.Statement.{text_of_lines};
 ghost use Rattle.brk_report_lines.specs.Written.{line_with_line_feed};
 
 use brk_explain_columns::{
-    end_line, label_amount, put_amount_fact, put_label, put_number_fact, put_numbered,
+    end_line, put_amount_fact, put_label, put_labeled_amount, put_number_fact, put_numbered,
     put_spaced_line, put_text,
 };
 use brk_explain_rows::OrderDetails;
@@ -72,7 +72,7 @@ fn put_awaited(
 }
 
 #[tactic(auto, unfolding(brk_model_explain::specs::Texts::labeled_text))]
-fn put_event_line(out: &mut Vec<u8>, trade: &TradeRow) -> Result<(), AllocError>
+fn put_awaited_line(out: &mut Vec<u8>, trade: &TradeRow) -> Result<(), AllocError>
     ensures { OnOk result (out.new.items
         ≡ out.old.items ++ line_with_line_feed (labeled_text (codes "Waits for") (lines.awaited_event_text trade.now.status trade.now.kind trade.now.bid))) }
 {
@@ -90,7 +90,7 @@ fn put_remarked(
 ) -> Result<(), AllocError>
     ensures { OnOk result (out.new.items ≡ out.old.items ++ line_with_line_feed (labeled_amount label.now amount ++ 32 ∷ words.now)) }
 {
-    label_amount(alloc, out, label, amount)?;
+    put_labeled_amount(alloc, out, label, amount)?;
     put_spaced_line(out, words.as_bytes())
 }
 
@@ -121,7 +121,7 @@ pub(crate) fn put_uncompleted(
         commission,
         commission_remark(trade.status),
     )?;
-    put_event_line(out, trade)?;
+    put_awaited_line(out, trade)?;
     put_number_fact(out, "Shares moved", 0)?;
     put_amount_fact(alloc, out, "Cash moved", Wide::new(0))?;
     put_status_count(out, order.statuses.len())

@@ -24,7 +24,7 @@ fn price_holding<S: Alter>(
     Ok(PricedHolding { summary, price })
 }
 
-fn price_holdings<S: Alter>(
+fn read_priced_holdings<S: Alter>(
     alloc: Global,
     store: &mut Store<S>,
     account: Id,
@@ -54,6 +54,6 @@ pub fn gather_account<S: Alter>(
     let Some(row) = store.account(account)? else {
         return Ok(None);
     };
-    let held = price_holdings(alloc, store, account)?;
+    let held = read_priced_holdings(alloc, store, account)?;
     Ok(Some(AccountDetails { account: row, held }))
 }

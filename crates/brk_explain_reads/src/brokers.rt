@@ -90,6 +90,7 @@ pub fn visit_broker_trades<S: Alter, E, V: Visitor<TradeRow, E>>(
     ensures walked { WalkPost S.Store store.old store.new abstract_trade_row (λ t. completed_trades_of_broker t broker)
         V.takes V.stops visitor.old visitor.new result }
 {
+    // The value is not needed: the call shows that the id is at least 1.
     let _least = broker.get();
     let accounts = match store.broker_account_ids(alloc, broker) {
         Ok(accounts) => accounts,

@@ -1,4 +1,5 @@
-//! The cash rows of an account before a stamp, walked one at a time.
+//! The number and the sum of the cash rows of an account before a stamp, which are walked one at a
+//! time.
 
 ghost use Rattle.std.specs.Prelude.{◌≡◌, ◌+◌, ◌+ℤ◌, IfOk};
 ghost use Rattle.brk_explain_reads.specs.Found.{IsCashSumBeforeStamp};

@@ -5,7 +5,7 @@ ghost use Rattle.brk_explain_reads.specs.HoldingParts.{AreTradesAndLotsOfHolding
 ghost use Rattle.brk_explain_rows.specs.Details.{abstract_lot_details};
 ghost use Rattle.brk_store_transactions.specs.Holds.{ReadPost};
 
-use crate::lot_changes::{OpeningAndLaterChanges, read_changes};
+use crate::lot_changes::{OpeningAndLaterChanges, read_changes_of_lot};
 use brk_explain_rows::{LotDetails, PricedLotChange};
 use brk_money::{CallFault, Id};
 use brk_ref::{LotChange, Symbol, TradeRow};
@@ -48,7 +48,7 @@ fn read_opened_lot<S: Alter>(
 ) -> Result<Option<LotDetails>, CallFault>
     ensures { ReadPost S.Store store.old store.new result (λ lot t. option_map abstract_lot_details lot ≡ lot_opened_by_trade t trade) }
 {
-    let all = read_changes(alloc, store, trade)?;
+    let all = read_changes_of_lot(alloc, store, trade)?;
     let OpeningAndLaterChanges {
         opening,
         changes_by_others,
@@ -95,6 +95,7 @@ fn push_trade(held: &mut TradesAndLots, one: TradeAndLot) -> Result<(), AllocErr
     Ok(())
 }
 
+// Reads also the lots that the trades opened.
 pub(crate) fn read_holding_trades<S: Alter>(
     alloc: Global,
     store: &mut Store<S>,

@@ -56,6 +56,7 @@ fn push_later(later: &mut Vec<LotChange>, change: &LotChange, lot: Id) -> Result
     Ok(())
 }
 
+// Returns the changes by trades other than the one that opened the lot, in the order of `changes`.
 fn later_changes(
     alloc: Global,
     changes: &[LotChange],
@@ -71,7 +72,7 @@ fn later_changes(
     Ok(later)
 }
 
-fn with_price(change: &LotChange, stamp: Stamp, price: Price) -> PricedLotChange
+fn as_priced_change(change: &LotChange, stamp: Stamp, price: Price) -> PricedLotChange
     ensures { result ≡ record { trade = change.now.trade; stamp = stamp; price = price; before = change.now.before; after = change.now.after } }
 {
     PricedLotChange {
@@ -95,7 +96,7 @@ fn read_priced_change<S: Alter>(
     let Some(price) = trade.price else {
         return Err(CallFault::Store);
     };
-    Ok(with_price(change, trade.stamp, price))
+    Ok(as_priced_change(change, trade.stamp, price))
 }
 
 fn read_changes_in_id_order<S: Alter>(
@@ -131,7 +132,7 @@ fn sort_changes(
 }
 
 // Returns the changes by other trades in the order of their completion.
-pub(crate) fn read_changes<S: Alter>(
+pub(crate) fn read_changes_of_lot<S: Alter>(
     alloc: Global,
     store: &mut Store<S>,
     lot: Id,

@@ -29,7 +29,7 @@ fn put_broker_head(out: &mut Vec<u8>, row: &BrokerRow) -> Result<(), AllocError>
 }
 
 /// Returns the lines before the trades: title, name and column headings.
-pub fn broker_head(alloc: Global, row: &BrokerRow) -> Result<Vec<u8>, AllocError>
+pub fn broker_header_text(alloc: Global, row: &BrokerRow) -> Result<Vec<u8>, AllocError>
     ensures { IfOk result (λ text. text.items ≡ text_of_lines (lines.broker_header_lines (abstract_broker_row row.now))) }
 {
     let mut text = Vec::new(alloc);
@@ -56,7 +56,11 @@ fn put_trade_line(
 
 /// Returns the line of a completed trade; `total`, in cents, is the sum of the commissions up to
 /// and including it.
-pub fn commission_text(alloc: Global, row: &TradeRow, total: Wide) -> Result<Vec<u8>, AllocError>
+pub fn trade_commission_text(
+    alloc: Global,
+    row: &TradeRow,
+    total: Wide,
+) -> Result<Vec<u8>, AllocError>
     ensures { IfOk result (λ line. line.items ≡ line_with_line_feed (lines.trade_commission_line (abstract_trade_row row.now) total)) }
 {
     let mut line = Vec::new(alloc);

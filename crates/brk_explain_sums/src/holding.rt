@@ -8,8 +8,8 @@ ghost use Rattle.brk_ref.specs.Records.{abstract_account_row, abstract_security_
 ghost use Rattle.brk_report_lines.specs.Written.{line_with_line_feed};
 
 use crate::holding_totals::put_holding_end;
-use crate::lot_lines::put_histories;
-use crate::trade_rows::put_held_trades;
+use crate::lot_lines::put_lot_histories;
+use crate::trade_lines::put_holding_trades;
 use brk_explain_columns::{put_numbered, put_text, put_text_fact, put_text_line};
 use brk_explain_rows::HoldingDetails;
 use brk_money::{CallFault, Id};
@@ -65,9 +65,9 @@ fn put_holding_lines(
     let done = details.done.as_slice();
     let lots = details.lots.as_slice();
     put_head_lines(out, &details.account, &details.security)?;
-    put_held_trades(alloc, out, done)?;
+    put_holding_trades(alloc, out, done)?;
     put_lot_header(out)?;
-    put_histories(alloc, out, lots)?;
+    put_lot_histories(alloc, out, lots)?;
     put_holding_end(alloc, out, done, lots, details.shares, details.price)?;
     Ok(())
 }

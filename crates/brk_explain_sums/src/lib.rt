@@ -6,8 +6,8 @@ pub mod holding;
 mod holding_lots;
 mod holding_totals;
 mod lot_lines;
-mod trade_rows;
+mod trade_lines;
 mod trades;
 
-pub use broker::{broker_end_text, broker_head, commission_text};
+pub use broker::{broker_end_text, broker_header_text, trade_commission_text};
 pub use holding::holding_explanation_text;

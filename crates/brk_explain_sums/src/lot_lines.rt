@@ -93,7 +93,7 @@ fn put_lot_history(alloc: Global, out: &mut Vec<u8>, lot: &LotDetails) -> Result
     put_remainder(alloc, out, lot)
 }
 
-pub(crate) fn put_histories(
+pub(crate) fn put_lot_histories(
     alloc: Global,
     out: &mut Vec<u8>,
     lots: &[LotDetails],

@@ -38,7 +38,7 @@ pub(crate) fn signed_value_of_trade(row: &TradeRow) -> Result<Wide, StoreFailed>
     shares_value(signed_quantity_of_trade(row), price)
 }
 
-pub(crate) fn next_held(held: i64, row: &TradeRow) -> Result<i64, StoreFailed>
+pub(crate) fn quantity_after_trade(held: i64, row: &TradeRow) -> Result<i64, StoreFailed>
     ensures { IfOk result (λ after. after ≡ held +ℤ holdings.signed_quantity_of_trade (abstract_trade_row row.now)) }
 {
     match held.checked_add(signed_quantity_of_trade(row)) {

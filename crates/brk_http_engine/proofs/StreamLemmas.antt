@@ -13,7 +13,7 @@ use Rattle.brk_model_http.specs.Found.{NoBytesLeft, ReadsFirstRequest}
 use Rattle.brk_model_http.specs.Stream.{CallRelation, StreamState, Finished, Continues, IsEffectOfFirstRequest, AreRepliesOfStream, AreFirstReplies}
 use Rattle.brk_http_engine.proofs.Effects.{effect_of}
 use Rattle.brk_http_engine.specs.Turns.{ExchangeHasReply, ExchangeCompletesWith, ExchangeFailsWith, StreamFailsWith, IsStreamResult}
-use Rattle.brk_http_engine.specs.declared.turning.ExchangeResult.TheVariants as turn
+use Rattle.brk_http_engine.specs.declared.exchanges.ExchangeResult.TheVariants as turn
 use Rattle.brk_io.specs.declared.stream_fault.FaultKind.{FaultKind}
 use Rattle.brk_io.specs.declared.stream_fault.FaultKind.TheVariants as kinds
 

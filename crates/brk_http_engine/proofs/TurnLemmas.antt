@@ -12,7 +12,7 @@ use Rattle.brk_http_reader.specs.FirstRequests.{request_at_positions, MatchesNex
 use Rattle.brk_http_reader.specs.declared.next.RequestPositions.{RequestPositions}
 use Rattle.brk_http_reader.specs.declared.next.NextRequest.TheVariants.{Whole}
 use Rattle.brk_http_engine.specs.Turns.{ExecutesRequest, ExchangeHasReply, ExchangeCompletesWith, ExchangeFailsWith}
-use Rattle.brk_http_engine.specs.declared.turning.ExchangeResult.TheVariants as turn
+use Rattle.brk_http_engine.specs.declared.exchanges.ExchangeResult.TheVariants as turn
 use Rattle.brk_io.specs.declared.stream_fault.FaultKind.TheVariants as kinds
 
 module _ {B C : Type 0} (forms : RequestParsers) (does : CallRelation B) (gives : C → ℕ → C → Type 0) (n : ℕ) (a : Option Text) (x : Text) (span : EnvironmentChange B C) where

@@ -1,7 +1,7 @@
 -- The greatest number of calls of the desk that a request and a stream make.
 use Rattle.std.specs.Prelude.{ℕ, ◌+◌, Result, Ok, Err}
-use Rattle.brk_http_engine.specs.declared.turning.ExchangeResult.{ExchangeResult}
-use Rattle.brk_http_engine.specs.declared.turning.ExchangeResult.TheVariants as turn
+use Rattle.brk_http_engine.specs.declared.exchanges.ExchangeResult.{ExchangeResult}
+use Rattle.brk_http_engine.specs.declared.exchanges.ExchangeResult.TheVariants as turn
 use Rattle.brk_io.specs.declared.stream_fault.FaultKind.{FaultKind}
 use Rattle.brk_io.specs.declared.stream_fault.FaultKind.TheVariants as kinds
 use Rattle.brk_io.specs.declared.stream_fault.ServeFault.{ServeFault}

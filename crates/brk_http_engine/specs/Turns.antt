@@ -16,8 +16,8 @@ use Rattle.brk_model_http.specs.Stream.{CallRelation, IsResponseToDemand, most_r
 use Rattle.brk_model_http.specs.Stream.{Finished, Continues, IsEffectOfFirstRequest, AreRepliesOfStream, AreFirstReplies}
 use Rattle.brk_io.specs.Span.{IsUnchangedEnvironment, EnvironmentChange}
 use Rattle.brk_io.specs.Moments.{ClockReturnsMomentsInSequence}
-use Rattle.brk_http_engine.specs.declared.turning.ExchangeResult.{ExchangeResult}
-use Rattle.brk_http_engine.specs.declared.turning.ExchangeResult.TheVariants as turn
+use Rattle.brk_http_engine.specs.declared.exchanges.ExchangeResult.{ExchangeResult}
+use Rattle.brk_http_engine.specs.declared.exchanges.ExchangeResult.TheVariants as turn
 use Rattle.brk_io.specs.declared.stream_fault.FaultKind.{FaultKind}
 use Rattle.brk_io.specs.declared.stream_fault.FaultKind.TheVariants as kinds
 use Rattle.brk_io.specs.declared.stream_fault.ServeFault.{ServeFault}

@@ -70,7 +70,7 @@ fn execute_query<D: Service>(
 
 /// Executes the call of a request, if it makes one, and returns the response. Reads the clock once
 /// for a well-formed row, and not for any other request.
-pub fn respond<C: Clock, D: Service>(
+pub fn execute_requested_call<C: Clock, D: Service>(
     alloc: Global,
     clock: &mut C,
     desk: &mut D::Desk,

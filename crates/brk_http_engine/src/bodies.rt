@@ -82,6 +82,7 @@ fn json_records(alloc: Global, records: &[Vec<String>]) -> Result<Value, AllocEr
     Ok(Value::Array(list))
 }
 
+// Returns the JSON object that has `value` as its one member.
 fn json_member(alloc: Global, word: MemberName, value: Value) -> Result<Value, AllocError>
     ensures { IfOk result (λ v. view v ≡ object (member (member_name_text word) (view value) no_members)) }
 {

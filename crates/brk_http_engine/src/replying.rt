@@ -7,13 +7,12 @@ ghost use Rattle.brk_model_http.specs.Replies.{http_status_of_problem, text_of_p
 ghost use Rattle.brk_model.specs.Commands as model;
 ghost use Rattle.brk_model.specs.Queries as queries;
 ghost use Rattle.brk_model.specs.Run as run;
-ghost use Rattle.brk_model_http.specs.Routes.{split_at_byte};
 ghost use Rattle.brk_http_engine.specs.Lines.{first_head_lines, status_text};
-ghost use Rattle.brk_http_engine.specs.Codes.{bytes_of_texts, response_in_model};
+ghost use Rattle.brk_http_engine.specs.Codes.{response_in_model};
 
 use crate::acting::ServiceResponse;
 use crate::bodies::{MemberName, json_error, json_view, texts_object};
-use crate::pieces::{copy_texts, split_at_byte};
+use crate::pieces::comma_fields;
 use crate::service::Service;
 use brk_model_http::RequestProblem;
 use brk_money::{Fault, Refusal};
@@ -83,14 +82,6 @@ pub fn is_fault_response<R, V>(response: &ServiceResponse<R, V>) -> bool
         ServiceResponse::Failed(_) => true,
         _ => false,
     }
-}
-
-/// Returns copies of the fields of a line; a line without a comma is one field.
-pub fn comma_fields(alloc: Global, line: &str) -> Result<Vec<String>, AllocError>
-    ensures { IfOk result (λ fields. bytes_of_texts fields ≡ split_at_byte 44 line.now) }
-{
-    let parts = split_at_byte(alloc, ',', line)?;
-    copy_texts(alloc, &parts)
 }
 
 // `{"no":["NUMBER",..]}`: the number of the refusal and, for `WrongStatus`, the code of the status,

@@ -8,9 +8,9 @@ ghost use Rattle.brk_http_engine.specs.Limits.{call_limit_of_stream};
 ghost use Rattle.brk_http_engine.specs.Promises.{CallWithClock, ChangesOnlyByCalls};
 ghost use Rattle.brk_http_engine.specs.Turns.{IsStreamResult};
 
+use crate::exchanges::{ExchangeResult, serve_request};
 use crate::router::{RouteKind, new_router};
 use crate::service::Service;
-use crate::turning::{ExchangeResult, serve_request};
 use brk_io::Clock;
 use brk_io::stream_fault::{FaultKind, ServeFault};
 use matchit::Router;

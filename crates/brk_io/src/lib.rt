@@ -13,7 +13,7 @@ pub mod writing;
 
 pub use batch_fault::{BatchFault, FaultKind};
 pub use clock::Clock;
-pub use program_clock::{ProgramClock, system_stamp};
+pub use program_clock::{ProgramClock, stamp_of_system_time};
 pub use report_fault::{LinesFault, ReportFault};
 pub use stream_fault::ServeFault;
 pub use usage_fault::UsageFault;

@@ -16,7 +16,7 @@ pub enum ProgramClock<'a, R> {
 }
 
 /// Returns the stamp of the time, at most the greatest stamp. No `SystemTime` is before 1970.
-pub fn system_stamp(time: SystemTime) -> Stamp
+pub fn stamp_of_system_time(time: SystemTime) -> Stamp
     ensures { result ≡ stamp_of_time time }
 {
     match time.duration_since(UNIX_EPOCH) {
@@ -31,7 +31,7 @@ pub fn system_stamp(time: SystemTime) -> Stamp
 // Returns 0 if the clock cannot be read or is set before 1970.
 fn read_machine_clock<R: rt::Clock>(clock: &R) -> Stamp {
     match SystemTime::now(clock) {
-        Ok(time) => system_stamp(time),
+        Ok(time) => stamp_of_system_time(time),
         Err(_) => Stamp::nearest(0),
     }
 }

@@ -9,6 +9,7 @@ ghost use Rattle.brk_lots.specs.Position.{IsPosition};
 use crate::lot::{Lot, are_same_side};
 use brk_money::{Id, Stamp};
 
+// Returns true if the next lot, if there is one, has the same side and a later stamp.
 fn precedes_next(lot: &Lot, rest: &[Lot]) -> bool
     ensures { IsTrue result ↔ FirstLotSatisfies (PrecedesOnSameSide lot.now) rest.now }
 {
@@ -18,6 +19,7 @@ fn precedes_next(lot: &Lot, rest: &[Lot]) -> bool
     }
 }
 
+// Returns false also if a lot has 0 shares.
 fn is_one_sided_ascending(lots: &[Lot]) -> bool
     ensures { IsTrue result ↔ IsOneSidedAndAscending lots.now }
 {

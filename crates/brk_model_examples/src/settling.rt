@@ -1,4 +1,5 @@
-//! Due days: the first day of one-day settlement, and completions at the end of the calendar.
+//! Due days: the first day of one-day settlement, and completions at the end of the calendar. The
+//! due day of a completion alone is in `rules`.
 #![tactic(auto, unfolding(crate::proofs::OnLiterals::model_on_literals))]
 
 ghost use Rattle.std.specs.Prelude.{◌≡◌, ◌∷◌, [], ℕ, map, Some, replicate, codes};

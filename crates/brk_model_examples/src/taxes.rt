@@ -1,4 +1,5 @@
-//! The tax on a gain and on a loss at each tax status.
+//! The tax on a gain and on a loss at each tax status, in batches. Rounding and withholding alone
+//! are in `rules`.
 #![tactic(auto, unfolding(crate::proofs::OnLiterals::model_on_literals))]
 
 ghost use Rattle.std.specs.Prelude.{◌∷◌, [], codes};

@@ -75,7 +75,7 @@ pub fn sale_closes_first_lot_first()
 
 /// Shows that a sale, last in first out, reduces the second lot, does not change the first, and is
 /// taxed on its gain.
-pub fn sale_closes_last_lot_first()
+pub fn lifo_sale_reduces_last_lot()
     ensures lines { BatchOutputsLines base_after_two_purchases
         (codes "order,100,TMS,ABC,150,,cash,lifo,Ann,Lee,T10"
         ∷ codes "result,3,13.00" ∷ [])

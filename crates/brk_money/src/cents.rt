@@ -45,6 +45,7 @@ impl Cents {
     }
 }
 
+// Parses an amount without a sign, such as `12.05`, and returns it in cents.
 #[tactic(auto, using(crate::proofs::Plain::plain_split, crate::proofs::Plain::plain_joined))]
 fn parse_unsigned(bytes: &[u8]) -> Option<u64>
     ensures found { IfSome result (λ n. (n ≤ Cents.GREATEST) × (bytes.now ≡ unsigned_cents_text n)) }

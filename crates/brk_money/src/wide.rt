@@ -90,6 +90,7 @@ impl fmt::Display for Price {
     }
 }
 
+// Appends the three texts, or none of them if it fails.
 fn append_texts(
     out: &mut Vec<u8>,
     first: &[u8],

@@ -68,6 +68,7 @@ fn parse_account(
     }))
 }
 
+// `terms` are the last fields: NAME, TAXST and OPENING.
 fn parse_account_with_last_fields(
     alloc: Global,
     id: &[u8],

@@ -80,6 +80,7 @@ fn parse_band(
     }))
 }
 
+// `terms` are the last fields: FROM, TO and RATE.
 fn parse_band_with_last_fields(
     alloc: Global,
     tier: &[u8],

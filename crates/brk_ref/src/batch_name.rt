@@ -9,6 +9,7 @@ use crate::text::{Form, Text};
 /// The name of a batch (K_BATCH): 1 to 40 ASCII letters, digits, points, hyphens and underscores.
 pub type BatchName = Text<BatchNameForm>;
 
+// Returns true if each byte may occur in the name of a batch.
 fn has_batch_bytes(text: &[u8]) -> bool
     ensures { result ≡ list_all (λ c. is_ascii_alphanumeric c || (c == 46) || (c == 45) || (c == 95)) text.now }
 {

@@ -9,7 +9,7 @@ use crate::text::{Form, Text};
 /// An exchange (S_EX_ID): 1 to 6 ASCII capital letters.
 pub type Exchange = Text<ExchangeForm>;
 
-fn has_capitals(text: &[u8]) -> bool
+fn has_only_capitals(text: &[u8]) -> bool
     ensures { result ≡ list_all (λ c. is_ascii_uppercase c) text.now }
 {
     text.iter().all(|c| c.is_ascii_uppercase())
@@ -31,7 +31,7 @@ impl Form for ExchangeForm {
         if text.len() > 6 {
             return false;
         }
-        has_capitals(text)
+        has_only_capitals(text)
     }
 
     ghost is_utf8 = { exchange_is_utf8 };

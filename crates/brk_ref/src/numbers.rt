@@ -1,5 +1,6 @@
 //! Parsers of canonical texts of numbers and amounts. Each returns `None` for any other bytes, and
-//! for a number out of the range of its type.
+//! for a number out of the range of its type. Those of a stamp, a tier and a trade type are in
+//! `span`, `tier` and `trade_type`.
 
 ghost use Rattle.std.specs.Prelude.{◌≡◌};
 ghost use Rattle.std.specs.Option.{ok_or};

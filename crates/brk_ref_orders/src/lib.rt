@@ -16,7 +16,7 @@ pub mod update;
 pub use cancel::parse_cancel;
 pub use completion::{Completion, parse_completion};
 pub use feed::{Feed, parse_market_feed};
-pub use movement::{Direction, Movement, parse_cash_move};
+pub use movement::{Direction, Movement, parse_cash_movement};
 pub use one_day::parse_one_day;
 pub use order::{Order, parse_trade_order};
 pub use tick::Tick;

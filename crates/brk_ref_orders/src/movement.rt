@@ -23,7 +23,7 @@ pub struct Movement {
 }
 
 /// Parses the fields ACCOUNT and AMOUNT. Refuses with `BadText` (18).
-pub fn parse_cash_move(direction: Direction, fields: &[&[u8]]) -> Result<Movement, Refusal>
+pub fn parse_cash_movement(direction: Direction, fields: &[&[u8]]) -> Result<Movement, Refusal>
     ensures { ParsesAs movement_command result (read_movement_command (cash_movement_command direction) (texts_of_fields fields.now)) }
 {
     let [account, amount] = fields else {

@@ -15,7 +15,7 @@ fn append_spaces(out: &mut Vec<u8>, count: usize) -> Result<(), AllocError>
 }
 
 /// Appends `text`, padded with spaces on the right to `places` bytes, at most 22.
-pub fn append_left(out: &mut Vec<u8>, places: usize, text: &[u8]) -> Result<(), AllocError>
+pub fn append_left_aligned(out: &mut Vec<u8>, places: usize, text: &[u8]) -> Result<(), AllocError>
     requires { places ≤ 22 }
     ensures { OnOk result (out.new.items ≡ out.old.items ++ left_aligned_text places text.now) }
 {
@@ -24,7 +24,7 @@ pub fn append_left(out: &mut Vec<u8>, places: usize, text: &[u8]) -> Result<(), 
 }
 
 /// Appends `text`, padded with spaces on the left to `places` bytes, at most 22.
-pub fn append_right(out: &mut Vec<u8>, places: usize, text: &[u8]) -> Result<(), AllocError>
+pub fn append_right_aligned(out: &mut Vec<u8>, places: usize, text: &[u8]) -> Result<(), AllocError>
     requires { places ≤ 22 }
     ensures { OnOk result (out.new.items ≡ out.old.items ++ right_aligned_text places text.now) }
 {

@@ -1,12 +1,12 @@
-//! The lines of a statement that show no row, each with its line feed. The functions fail with
-//! `Memory` only.
+//! The lines of a statement that show no row, each with its line feed: title, name, period, amounts
+//! and, as the last line, the numbers of rows. The functions fail with `Memory` only.
 
 ghost use Rattle.std.specs.Prelude.{◌≡◌, ◌++◌, IfOk, codes, decimal};
 ghost use Rattle.brk_money.specs.Spelling.{day_text};
 ghost use Rattle.brk_model.specs.Statement as statement;
 ghost use Rattle.brk_report_lines.specs.Written.{line_with_line_feed};
 
-use crate::columns::{append_left, append_right};
+use crate::columns::{append_left_aligned, append_right_aligned};
 use brk_money::{Day, Id, Wide, append_cents, append_day};
 use brk_ref::Name;
 use itoa::Buffer;
@@ -51,9 +51,9 @@ pub fn amount_line(alloc: Global, word: &str, amount: Wide) -> Result<Vec<u8>, A
     let mut cents = Vec::new(alloc);
     append_cents(&mut cents, amount)?;
     let mut line = Vec::new(alloc);
-    append_left(&mut line, 10, word.as_bytes())?;
+    append_left_aligned(&mut line, 10, word.as_bytes())?;
     line.push(b' ')?;
-    append_right(&mut line, 22, cents.as_slice())?;
+    append_right_aligned(&mut line, 22, cents.as_slice())?;
     line.push(b'\n')?;
     Ok(line)
 }

@@ -5,7 +5,7 @@ ghost use Rattle.brk_ref.specs.Rows.{abstract_holding_row, abstract_cash_row};
 ghost use Rattle.brk_model.specs.Statement as statement;
 ghost use Rattle.brk_report_lines.specs.Written.{line_with_line_feed};
 
-use crate::columns::{append_left, append_right};
+use crate::columns::{append_left_aligned, append_right_aligned};
 use brk_money::{Wide, append_cents, append_day, day_of};
 use brk_ref::{CashRow, HoldingRow};
 use itoa::Buffer;
@@ -21,7 +21,7 @@ pub fn cash_row_line(alloc: Global, row: &CashRow) -> Result<Vec<u8>, AllocError
     let mut line = Vec::new(alloc);
     append_day(&mut line, day_of(row.stamp))?;
     line.push(b' ')?;
-    append_right(&mut line, 22, cents.as_slice())?;
+    append_right_aligned(&mut line, 22, cents.as_slice())?;
     line.push(b' ')?;
     line.extend_from_slice(row.name.as_bytes())?;
     line.push(b'\n')?;
@@ -39,13 +39,13 @@ pub fn lot_line(alloc: Global, row: &HoldingRow) -> Result<Vec<u8>, AllocError>
     let mut trade = Buffer::new();
     let mut qty = Buffer::new();
     let mut line = Vec::new(alloc);
-    append_left(&mut line, 15, row.symbol.as_str().as_bytes())?;
+    append_left_aligned(&mut line, 15, row.symbol.as_str().as_bytes())?;
     line.push(b' ')?;
-    append_right(&mut line, 13, trade.format(row.trade.get()).as_bytes())?;
+    append_right_aligned(&mut line, 13, trade.format(row.trade.get()).as_bytes())?;
     line.push(b' ')?;
-    append_right(&mut line, 11, qty.format(row.qty).as_bytes())?;
+    append_right_aligned(&mut line, 11, qty.format(row.qty).as_bytes())?;
     line.push(b' ')?;
-    append_right(&mut line, 10, price.as_slice())?;
+    append_right_aligned(&mut line, 10, price.as_slice())?;
     line.push(b'\n')?;
     Ok(line)
 }

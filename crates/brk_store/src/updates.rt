@@ -22,7 +22,7 @@ use std::alloc::Global;
 impl<S: Alter> Store<S> {
     /// Returns the oldest twenty trades of an account that were completed in the span, both ends
     /// included, sorted by the stamp of completion and then by id.
-    pub fn completed_trades_of_account(
+    pub fn twenty_completed_trades(
         &mut self,
         alloc: Global,
         account: Id,
@@ -32,14 +32,12 @@ impl<S: Alter> Store<S> {
             ≡ chosen.first_twenty_completed_trade_rows_of_account account span.first span.last t) }
     {
         let mut tx = begin_transaction(&mut self.conn);
-        brk_tables_trading::completed_trades_of_account(
-            &mut tx, alloc, account, span.first, span.last,
-        )
+        brk_tables_trading::twenty_completed_trades(&mut tx, alloc, account, span.first, span.last)
     }
 
-    /// Does for the cash trades of a symbol what `completed_trades_of_account` does
+    /// Does for the cash trades of a symbol what `twenty_completed_trades` does
     /// for an account.
-    pub fn completed_cash_trades_of_symbol(
+    pub fn twenty_completed_cash_trades(
         &mut self,
         alloc: Global,
         symbol: &Symbol,
@@ -49,7 +47,7 @@ impl<S: Alter> Store<S> {
             ≡ chosen.first_twenty_completed_cash_trade_rows_of_symbol symbol.now span.first span.last t) }
     {
         let mut tx = begin_transaction(&mut self.conn);
-        brk_tables_trading::completed_cash_trades_of_symbol(
+        brk_tables_trading::twenty_completed_cash_trades(
             &mut tx, alloc, symbol, span.first, span.last,
         )
     }

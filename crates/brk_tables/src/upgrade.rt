@@ -16,6 +16,7 @@ use brk_trade_rows::Schema;
 use sqlite::{Alter, Transaction};
 use std::alloc::Global;
 
+// Creates the tables that `schema` lacks and sets the number of the schema to 3. Moves no rows.
 fn raise_schema<S: Alter>(tx: &mut Transaction<'_, S>, schema: Schema) -> Result<(), StoreFailed>
     ensures same_reference { tx.new.conn.ghost_name ≡ tx.old.conn.ghost_name }
     ensures step { IsConnectionStep S.Store tx.old tx.new result (λ _ a b. AddsTablesOfLaterSchemas (abstract_schema schema) a.now b.now) }

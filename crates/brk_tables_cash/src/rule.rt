@@ -25,6 +25,7 @@ pub fn set_one_day_start<S: Alter>(tx: &mut Transaction<'_, S>, day: Day) -> Res
     )
 }
 
+// Decodes like `one_day_start_in_rule_rows`, for a caller that returns `StoreFailed`.
 fn one_day_start_in_rows(rows: &[Row]) -> Result<Option<Day>, StoreFailed>
     ensures value { IfOk result (λ day. map rule_cells (rule_rows day) ≡ rows.now) }
 {

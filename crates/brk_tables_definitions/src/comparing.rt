@@ -14,6 +14,7 @@ use crate::parts::{
 };
 use sqlite_schema::schema::{Schema, Table};
 
+// Compares the name, the columns and the primary key. The table must have no AUTOINCREMENT.
 fn has_layout(table: &Table, definition: &Definition) -> bool
     ensures { IsTrue result ↔ ((table.now.name ≡ (table_of_definition definition.now 0).name) × (table.now.key ≡ definition.now.key)
         × (table.now.primary ≡ definition.now.primary.now) × (table.now.columns ≡ (table_of_definition definition.now 0).columns) × (table.now.is_counted ≡ false)) }

@@ -77,7 +77,7 @@ pub fn customer_tax_by_ids<S: Alter>(
     decode_first_row(&rows)
 }
 
-/// Returns the taxes that a customer pays, sorted by the id of the tax rate, ascending.
+/// A row has the id of a tax, and not its rate.
 pub fn taxes_of_customer<S: Alter>(
     tx: &mut Transaction<'_, S>,
     alloc: Global,

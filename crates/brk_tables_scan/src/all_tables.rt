@@ -44,7 +44,7 @@ pub struct OwnerRows {
     customers: Vec<Row>,
 }
 
-fn read_owner_rows<S: Alter>(
+fn read_owner_group<S: Alter>(
     tx: &mut Transaction<'_, S>,
     alloc: Global,
     decoder: &mut Decoder,
@@ -73,7 +73,7 @@ pub struct OwnerSheets {
     customers: Vec<Customer>,
 }
 
-fn decode_owner_rows(
+fn decode_owner_group(
     alloc: Global,
     schema: Schema,
     raw: OwnerRows,
@@ -102,7 +102,7 @@ pub struct ListingRows {
     last_trades: Vec<Row>,
 }
 
-fn read_listing_rows<S: Alter>(tx: &mut Transaction<'_, S>) -> Result<ListingRows, StoreFailed>
+fn read_listing_group<S: Alter>(tx: &mut Transaction<'_, S>) -> Result<ListingRows, StoreFailed>
     ensures same_reference { tx.new.conn.ghost_name ≡ tx.old.conn.ghost_name }
     ensures step { IsConnectionStep S.Store tx.old tx.new result (λ raw. ShowsListingTables raw) }
 {
@@ -127,7 +127,7 @@ pub struct ListingSheets {
     last_trades: Vec<LastTrade>,
 }
 
-fn decode_listing_rows(
+fn decode_listing_group(
     alloc: Global,
     raw: ListingRows,
     decoder: &mut Decoder,
@@ -156,7 +156,7 @@ pub struct TermsRows {
     customer_taxes: Vec<Row>,
 }
 
-fn read_terms_rows<S: Alter>(tx: &mut Transaction<'_, S>) -> Result<TermsRows, StoreFailed>
+fn read_terms_group<S: Alter>(tx: &mut Transaction<'_, S>) -> Result<TermsRows, StoreFailed>
     ensures same_reference { tx.new.conn.ghost_name ≡ tx.old.conn.ghost_name }
     ensures step { IsConnectionStep S.Store tx.old tx.new result (λ raw. ShowsTermsTables raw) }
 {
@@ -181,7 +181,7 @@ pub struct TermsSheets {
     customer_taxes: Vec<CustomerTax>,
 }
 
-fn decode_terms_rows(
+fn decode_terms_group(
     alloc: Global,
     raw: TermsRows,
     decoder: &mut Decoder,
@@ -210,7 +210,7 @@ pub struct TradeRows {
     holdings: Vec<Row>,
 }
 
-fn read_trade_rows<S: Alter>(tx: &mut Transaction<'_, S>) -> Result<TradeRows, StoreFailed>
+fn read_trade_group<S: Alter>(tx: &mut Transaction<'_, S>) -> Result<TradeRows, StoreFailed>
     ensures same_reference { tx.new.conn.ghost_name ≡ tx.old.conn.ghost_name }
     ensures step { IsConnectionStep S.Store tx.old tx.new result (λ raw. ShowsTradeTables raw) }
 {
@@ -235,7 +235,7 @@ pub struct TradeSheets {
     holdings: Vec<HoldingRow>,
 }
 
-fn decode_trade_rows(
+fn decode_trade_group(
     alloc: Global,
     raw: TradeRows,
     decoder: &mut Decoder,
@@ -264,7 +264,7 @@ pub struct BookingRows {
     cash: Vec<Row>,
 }
 
-fn read_booking_rows<S: Alter>(tx: &mut Transaction<'_, S>) -> Result<BookingRows, StoreFailed>
+fn read_booking_group<S: Alter>(tx: &mut Transaction<'_, S>) -> Result<BookingRows, StoreFailed>
     ensures same_reference { tx.new.conn.ghost_name ≡ tx.old.conn.ghost_name }
     ensures step { IsConnectionStep S.Store tx.old tx.new result (λ raw. ShowsBookingTables raw) }
 {
@@ -289,7 +289,7 @@ pub struct BookingSheets {
     cash: Vec<OldCashRow>,
 }
 
-fn decode_booking_rows(
+fn decode_booking_group(
     alloc: Global,
     raw: BookingRows,
     decoder: &mut Decoder,
@@ -316,7 +316,7 @@ pub struct LaterRows {
     rule: Vec<Row>,
 }
 
-fn read_later_rows<S: Alter>(
+fn read_later_group<S: Alter>(
     tx: &mut Transaction<'_, S>,
     alloc: Global,
     schema: Schema,
@@ -336,7 +336,7 @@ pub struct LaterSheets {
     rule: Option<Day>,
 }
 
-fn decode_later_rows(
+fn decode_later_group(
     alloc: Global,
     raw: LaterRows,
     decoder: &mut Decoder,
@@ -370,12 +370,12 @@ fn read_raw_sheets<S: Alter>(
     ensures step { IsConnectionStep S.Store tx.old tx.new result
         (λ raw. ReadsRawSheets (abstract_schema schema) decoder.old.are_well_formed decoder.new.are_well_formed raw) }
 {
-    let owners = read_owner_rows(tx, alloc, decoder)?;
-    let listings = read_listing_rows(tx)?;
-    let terms = read_terms_rows(tx)?;
-    let trades = read_trade_rows(tx)?;
-    let bookings = read_booking_rows(tx)?;
-    let later = read_later_rows(tx, alloc, schema)?;
+    let owners = read_owner_group(tx, alloc, decoder)?;
+    let listings = read_listing_group(tx)?;
+    let terms = read_terms_group(tx)?;
+    let trades = read_trade_group(tx)?;
+    let bookings = read_booking_group(tx)?;
+    let later = read_later_group(tx, alloc, schema)?;
     Ok(RawSheets {
         owners,
         listings,
@@ -396,12 +396,12 @@ fn decode_raw_sheets(
         (are_raw_rows_well_formed (abstract_schema schema) raw) (DecodesRows (abstract_schema schema) sheets raw)) }
     ensures of_schema { IfOk result (λ sheets. sheets.schema ≡ schema) }
 {
-    let owners = decode_owner_rows(alloc, schema, raw.owners, decoder)?;
-    let listings = decode_listing_rows(alloc, raw.listings, decoder)?;
-    let terms = decode_terms_rows(alloc, raw.terms, decoder)?;
-    let trades = decode_trade_rows(alloc, raw.trades, decoder)?;
-    let bookings = decode_booking_rows(alloc, raw.bookings, decoder)?;
-    let later = decode_later_rows(alloc, raw.later, decoder)?;
+    let owners = decode_owner_group(alloc, schema, raw.owners, decoder)?;
+    let listings = decode_listing_group(alloc, raw.listings, decoder)?;
+    let terms = decode_terms_group(alloc, raw.terms, decoder)?;
+    let trades = decode_trade_group(alloc, raw.trades, decoder)?;
+    let bookings = decode_booking_group(alloc, raw.bookings, decoder)?;
+    let later = decode_later_group(alloc, raw.later, decoder)?;
     Ok(Sheets {
         schema,
         last: owners.last,

@@ -14,7 +14,7 @@ use brk_tables_schema::calls::statement_has_columns;
 use brk_trade_rows::Schema;
 use sqlite::{Alter, Transaction};
 
-// Fails, rather than returns false, if a checked table does not exist.
+// A heading is a statement that selects all columns of a table, with their names.
 fn headings_match<S: Alter>(
     tx: &mut Transaction<'_, S>,
     headings: &[(&str, &[&str])],

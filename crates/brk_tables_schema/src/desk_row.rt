@@ -59,6 +59,7 @@ pub fn last_stamp_in_desk_rows(schema: Schema, rows: &[Row]) -> Result<Option<St
     }
 }
 
+// Decodes like `last_stamp_in_desk_rows`, for a caller that returns `StoreFailed`.
 fn last_stamp_in_third_schema(rows: &[Row]) -> Result<Option<Stamp>, StoreFailed>
     ensures value { IfOk result (λ last. map desk_row_cells (desk_rows third_schema last) ≡ rows.now) }
 {

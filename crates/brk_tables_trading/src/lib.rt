@@ -39,6 +39,6 @@ pub use trades::{
     add_trade, complete_trade, greatest_trade_id, set_trade_status, submitted_trades, trade_by_id,
 };
 pub use updates::{
-    completed_cash_trades_of_symbol, completed_trades_of_account, set_cash_type, set_executor,
-    settlement_by_trade,
+    set_cash_type, set_executor, settlement_by_trade, twenty_completed_cash_trades,
+    twenty_completed_trades,
 };

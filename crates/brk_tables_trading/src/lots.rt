@@ -1,4 +1,5 @@
-//! Writes of the lots of accounts (HOLDING), and of their changes by trades (HOLDING_HISTORY).
+//! Writes of the lots of accounts (HOLDING), and of their changes by trades (HOLDING_HISTORY); the
+//! reads of lots are in `holdings`.
 
 ghost use Rattle.std.specs.Prelude.{◌≡◌};
 ghost use Rattle.brk_trade_rows.specs.Changes.{tables_with_lot, tables_with_lot_change, tables_with_lot_quantity, tables_without_lot};

@@ -1,5 +1,5 @@
 //! Writes of holding summaries (HOLDING_SUMMARY): the number of shares of each security that an
-//! account holds in total.
+//! account holds in total; the reads are in `holdings`.
 
 ghost use Rattle.std.specs.Prelude.{◌≡◌};
 ghost use Rattle.brk_trade_rows.specs.Changes.{tables_with_summary, tables_with_summary_quantity, tables_without_summary};

@@ -20,7 +20,7 @@ use std::alloc::Global;
 /// Returns the first twenty, or all if there are fewer, of the trades of an account that were
 /// completed from `first` to `last`, both included, sorted by the stamp of completion and then by
 /// id, ascending.
-pub fn completed_trades_of_account<S: Alter>(
+pub fn twenty_completed_trades<S: Alter>(
     tx: &mut Transaction<'_, S>,
     alloc: Global,
     account: Id,
@@ -50,7 +50,7 @@ pub fn completed_trades_of_account<S: Alter>(
 /// Returns the first twenty, or all if there are fewer, of the cash trades of a symbol that were
 /// completed from `first` to `last`, both included, sorted by the stamp of completion and then by
 /// id, ascending.
-pub fn completed_cash_trades_of_symbol<S: Alter>(
+pub fn twenty_completed_cash_trades<S: Alter>(
     tx: &mut Transaction<'_, S>,
     alloc: Global,
     symbol: &Symbol,

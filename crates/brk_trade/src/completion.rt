@@ -17,6 +17,7 @@ use brk_trade_plans::Completed;
 use brk_trade_rows::{Amount, Change};
 use std::alloc::{AllocError, Global};
 
+// Appends the completion of the trade and its history row.
 fn append_trade(
     trade: Id,
     price: Price,
@@ -81,7 +82,7 @@ fn append_touches(trade: Id, touched: &[Touch], changes: &mut Vec<Change>) -> Re
     Ok(())
 }
 
-fn append_opened(
+fn append_opened_lot(
     trade: &TradeRow,
     opened: Option<Lot>,
     changes: &mut Vec<Change>,
@@ -151,7 +152,7 @@ fn totals_change(found: &ResultPlanFacts, outcome: &ResultFigures) -> Change
     }
 }
 
-fn settling_change(trade: &TradeRow, completed: &Completed) -> Change
+fn settlement_change(trade: &TradeRow, completed: &Completed) -> Change
     ensures { result ≡ spec.row_change_adding_settlement trade.now completed.now }
 {
     Change::AddSettlement(SettlementRow {
@@ -173,11 +174,11 @@ fn append_sums_with_settlement(
     let summary = summary_change(found, outcome)?;
     changes.push(summary)?;
     changes.push(totals_change(found, outcome))?;
-    changes.push(settling_change(&found.trade, &outcome.completed))?;
+    changes.push(settlement_change(&found.trade, &outcome.completed))?;
     Ok(())
 }
 
-fn append_qty(name: &mut String, qty: Qty) -> Result<(), AllocError>
+fn append_cash_text_quantity(name: &mut String, qty: Qty) -> Result<(), AllocError>
     ensures { OnOk result (string_bytes name.new ≡ string_bytes name.old ++ spec.cash_text_part_with_quantity qty) }
 {
     write!(name, " {} shares of ", qty.get())
@@ -189,7 +190,7 @@ fn trade_cash_text(alloc: Global, trade: &TradeRow, security: &Name) -> Result<S
     ensures { IfOk result (λ name. string_bytes name ≡ spec.cash_text_of_trade trade.now security.now) }
 {
     let mut name = String::from_str(alloc, trade.kind.name())?;
-    append_qty(&mut name, trade.qty)?;
+    append_cash_text_quantity(&mut name, trade.qty)?;
     name.push_str(security.as_str())?;
     Ok(name)
 }
@@ -214,6 +215,7 @@ fn result_cash_row(
     }))
 }
 
+// Appends the cash row and the balance, or nothing for a margin trade.
 fn append_cash(
     account: Id,
     completed: &Completed,
@@ -249,7 +251,7 @@ fn changes_with_cash_row(
     let mut changes = Vec::new(alloc);
     append_trade(trade.id, price, completed, &mut changes)?;
     append_touches(trade.id, &closed.touched, &mut changes)?;
-    append_opened(trade, closed.opened, &mut changes)?;
+    append_opened_lot(trade, closed.opened, &mut changes)?;
     append_sums_with_settlement(found, outcome, &mut changes)?;
     append_cash(trade.account, completed, cash, &mut changes)?;
     changes.push(Change::SetLastStamp(completed.stamp))?;

@@ -8,8 +8,8 @@ ghost use Rattle.brk_trade.specs.Outcomes.{checks_before_reading_lots, checks_af
 
 use crate::result_found::ResultPlanFacts;
 use crate::settling::{
-    balance_after_settlement, checked_commissions, checked_due_day, commission_of, settled_amount,
-    tax_on_closed,
+    balance_after_settlement, checked_due_day, commission_of, commissions_after_result,
+    settled_amount, tax_on_closed_shares,
 };
 use brk_lots::{ClosedLots, signed_qty};
 use brk_money::{Limit, Price, Rate, Refusal, Stamp};
@@ -82,7 +82,7 @@ pub(crate) fn check_before_lots(found: &ResultPlanFacts) -> Result<RateAndSummar
     Ok(RateAndSummary { rate, summary })
 }
 
-// Refuses a missing stamp only after the balance and the broker's commissions.
+// Returns the figures, or the first refusal of the checks that need the closed lots.
 pub(crate) fn check_after_lots(
     found: &ResultPlanFacts,
     price: Price,
@@ -104,12 +104,12 @@ pub(crate) fn check_after_lots(
     let buy_value = values.buy_value;
     let sell_value = values.sell_value;
     let commission = commission_of(&found.trade, price, known.rate);
-    let tax = tax_on_closed(found, values);
+    let tax = tax_on_closed_shares(found, values);
     let amount = settled_amount(found, price, commission, tax);
     let Some(balance) = balance_after_settlement(found, amount) else {
         return Err(Refusal::Range(Limit::Balance));
     };
-    let Some(commissions) = checked_commissions(&found.parties.broker, commission) else {
+    let Some(commissions) = commissions_after_result(&found.parties.broker, commission) else {
         return Err(Refusal::Range(Limit::Broker));
     };
     let Some(stamp) = stamp else {

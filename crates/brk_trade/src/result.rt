@@ -14,7 +14,7 @@ ghost use Rattle.brk_trade.specs.Results.{IsResultRefusal, ClosesNoHeldShares, H
 use crate::completion::result_changes;
 use crate::outcome::{check_after_lots, check_before_lots, shares_held_before_trade};
 use crate::result_found::ResultPlanFacts;
-use crate::settling::trades_after;
+use crate::settling::trade_count_after_result;
 use brk_lots::{ClosedLots, LotSource, close_lots, is_trade_closing_lots, opening_effect};
 use brk_money::{Fault, Planned, Price, Refusal, Stamp, stamp_after};
 use brk_trade_plans::{Plan, Reply};
@@ -93,7 +93,7 @@ pub fn plan_result<L: LotSource>(
     let Some(found) = found else {
         return Ok(Err(Refusal::NoTrade));
     };
-    let Some(trades) = trades_after(&found.parties.broker) else {
+    let Some(trades) = trade_count_after_result(&found.parties.broker) else {
         return Err(Fault::Store);
     };
     let known = match check_before_lots(found) {

@@ -30,7 +30,7 @@ pub(crate) fn commission_of(trade: &TradeRow, price: Price, rate: Rate) -> Amoun
 }
 
 #[tactic(auto, using(crate::proofs::Bounds::tax_at_high))]
-pub(crate) fn tax_on_closed(found: &ResultPlanFacts, values: Values) -> Amount
+pub(crate) fn tax_on_closed_shares(found: &ResultPlanFacts, values: Values) -> Amount
     requires { values.sell_value ≤ found.now.trade.qty * greatest_price }
     ensures value { result ≡ spec.tax_of_result found.now values }
     ensures high { result ≤ greatest_trade_value }
@@ -95,7 +95,7 @@ pub(crate) fn balance_after_settlement(found: &ResultPlanFacts, amount: Cents) -
     add_within_balance_limit(found.parties.account.balance, amount)
 }
 
-pub(crate) fn checked_commissions(broker: &BrokerRow, commission: Amount) -> Option<Amount>
+pub(crate) fn commissions_after_result(broker: &BrokerRow, commission: Amount) -> Option<Amount>
     ensures { MatchOption result
         (nat_lt greatest_amount (broker.now.commissions + commission) ≡ true)
         (λ after. (after ≡ broker.now.commissions + commission) × (nat_lt greatest_amount (broker.now.commissions + commission) ≡ false)) }
@@ -107,7 +107,7 @@ pub(crate) fn checked_commissions(broker: &BrokerRow, commission: Amount) -> Opt
 }
 
 // Returns `None` if the row's number of trades is not 0 to 10^12.
-pub(crate) fn trades_after(broker: &BrokerRow) -> Option<i64>
+pub(crate) fn trade_count_after_result(broker: &BrokerRow) -> Option<i64>
     ensures { MatchOption result
         (is_trade_count broker.now.trades ≡ false)
         (λ trades. (trades ≡ broker.now.trades +ℤ pos 1) × (is_trade_count broker.now.trades ≡ true)) }

@@ -1,3 +1,6 @@
+//! The plan of a market feed: the last trades after its ticks, and the pending trades that their
+//! prices trigger.
+
 ghost use Rattle.std.specs.Prelude.{◌≡◌, ◌∷◌, ◌++◌, ℕ, [], IfOk, IfErr, OnOk, OnErr, Err, MatchResult, Some, true, false};
 ghost use Rattle.std.specs.List.{list_any};
 ghost use Rattle.brk_model.specs.Feed as definition;
@@ -36,7 +39,7 @@ pub fn is_triggered_at_price(kind: TradeType, bid: Price, price: Price) -> bool
     }
 }
 
-fn quotes_symbol(quote: &Quote, symbol: &Symbol) -> bool
+fn is_quote_of_symbol(quote: &Quote, symbol: &Symbol) -> bool
     ensures { result ≡ is_state_of_symbol symbol.now (state_of_quote quote.now) }
 {
     quote.last.symbol.as_str() == symbol.as_str()
@@ -48,7 +51,7 @@ pub fn has_no_quote_of_symbol(quotes: &[Quote], tick: &Tick) -> bool
 {
     !quotes
         .iter()
-        .any(|quote| quotes_symbol(quote, &tick.symbol))
+        .any(|quote| is_quote_of_symbol(quote, &tick.symbol))
 }
 
 fn has_tick_without_quote(quotes: &[Quote], ticks: &[Tick]) -> bool
@@ -106,7 +109,7 @@ fn submit_triggered(
     Ok(())
 }
 
-fn still_pending(
+fn untriggered_requests(
     alloc: Global,
     price: Price,
     requests: Vec<RequestRow>,
@@ -142,7 +145,7 @@ fn apply_to_quote(
     ensures refusal { IfOk result (λ taken. IfErr taken (λ refusal. (refusal ≡ Range limit.Volume)
         × (list_any has_volume_above_limit (states_after_tick stamp (state_of_quote quote ∷ []) tick.now) ≡ true))) }
 {
-    if !quotes_symbol(&quote, &tick.symbol) {
+    if !is_quote_of_symbol(&quote, &tick.symbol) {
         return Ok(Ok(quote));
     }
     let Quote { last, requests } = quote;
@@ -152,7 +155,7 @@ fn apply_to_quote(
     };
     changes.push(last_trade_change(&last)?)?;
     submit_triggered(stamp, tick.price, &requests, changes, ids)?;
-    let requests = still_pending(alloc, tick.price, requests)?;
+    let requests = untriggered_requests(alloc, tick.price, requests)?;
     Ok(Ok(Quote { last, requests }))
 }
 

@@ -1,3 +1,6 @@
+//! The plan of a deposit or a withdrawal, and the addition to a balance within its limit, which a
+//! result needs too.
+
 ghost use Rattle.std.specs.Prelude.{◌≡◌, ◌∷◌, ◌++◌, ◌+ℤ◌, [], true, false, nat_abs, nat_lt, IfOk, OnErr, Err, MatchOption, MatchResult, None, Some};
 ghost use Rattle.brk_ref.specs.Rows.{abstract_cash_row};
 ghost use Rattle.brk_model.specs.Limits.{greatest_amount};

@@ -17,6 +17,7 @@ use brk_ref_orders::Update;
 use brk_trade_rows::Change;
 use std::alloc::{AllocError, Global};
 
+// Returns the refusal of an update whose target does not exist.
 fn target_refusal(update: &Update) -> Refusal
     ensures { result ≡ spec.missing_target_refusal update.now }
 {
@@ -90,6 +91,7 @@ fn cash_name_changes(
     Ok(changes)
 }
 
+// Returns the changes of the texts alone: `plan_update` appends that of the last stamp.
 fn update_changes(alloc: Global, found: &TextUpdate) -> Result<Vec<Change>, AllocError>
     ensures changes { IfOk result (λ changes. map tables_after_change changes.items ≡ table_updates_of_text_update found.now) }
 {

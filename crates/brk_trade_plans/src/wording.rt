@@ -60,7 +60,7 @@ pub fn toggle_cash_type(is_cash: bool, cash_type: CashType) -> CashType
     }
 }
 
-fn append_quantity(text: &mut String, qty: Qty, words: &str) -> Result<(), AllocError>
+fn append_cash_text_quantity(text: &mut String, qty: Qty, words: &str) -> Result<(), AllocError>
     ensures { OnOk result (string_bytes text.new ≡ string_bytes text.old ++ 32 ∷ decimal qty ++ words.now) }
 {
     write!(text, " {}{words}", qty.get())
@@ -75,7 +75,7 @@ fn format_cash_text(
     ensures { IfOk result (λ text. string_bytes text ≡ cash_row_name_from_parts words.now paid.now.kind paid.now.qty security.now) }
 {
     let mut text = String::from_str(alloc, paid.kind.name())?;
-    append_quantity(&mut text, paid.qty, words)?;
+    append_cash_text_quantity(&mut text, paid.qty, words)?;
     text.push_str(security.as_str())?;
     Ok(text)
 }

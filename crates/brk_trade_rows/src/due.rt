@@ -6,7 +6,8 @@ ghost use Rattle.brk_model.specs.Derived as derived;
 
 use brk_money::{Day, Stamp, day_of};
 
-/// Returns 1 on and after `rule`, the first day of one-day settlement, otherwise 2.
+/// Returns 1 if `day`, the UTC day of the completion, is on or after `rule`, the first day of one-day
+/// settlement, otherwise 2.
 pub fn days_to_settlement(rule: Option<Day>, day: Day) -> u16
     ensures { result ≡ derived.days_to_settlement rule day }
 {

@@ -1,6 +1,6 @@
 //! Theorems: the checks and the row changes of cancels and feeds from the tables implement their
 //! commands, in a base that satisfies the books invariant and at a clock reading of at most the
-//! greatest stamp.
+//! greatest stamp. Also, for any command, that a refused one returns its refusal.
 
 ghost use Rattle.std.specs.Prelude.{◌+◌, ◌≡◌, ◌≤◌, ℕ, Err, List, None, Some, is_some, true};
 ghost use Rattle.std.specs.List.{AllByRecursion};

@@ -1,4 +1,5 @@
-//! Theorems: the plans of text updates implement their commands.
+//! Theorems: the plans of text updates implement their commands, and a text update changes only one
+//! column of texts.
 
 ghost use Rattle.std.specs.Prelude.{◌≡◌, ◌∷◌, ◌++◌, [], ℕ, Err, List, Option, Some};
 ghost use Rattle.brk_money.specs.Spelling.{Text};

@@ -40,6 +40,7 @@ pub(crate) fn worth_records(
     Ok(records)
 }
 
+// Returns the record of a trade in the view `recent`.
 fn trade_row_texts(alloc: Global, trade: &TradeRow) -> Result<Vec<String>, AllocError>
     ensures { IfOk result (λ texts. texts_of_record texts ≡ recents.recent_trade_record (abstract_trade_row trade.now)) }
 {
@@ -140,7 +141,7 @@ fn append_last_status_fields(
     push_text(alloc, texts, status.security.exchange.as_str())
 }
 
-fn status_texts(alloc: Global, status: &TradeStatus) -> Result<Vec<String>, AllocError>
+fn trade_status_texts(alloc: Global, status: &TradeStatus) -> Result<Vec<String>, AllocError>
     ensures { IfOk result (λ texts. texts_of_record texts ≡ statuses.trade_status_record status.now) }
 {
     let mut texts = first_status_fields(alloc, &status.trade)?;
@@ -148,7 +149,7 @@ fn status_texts(alloc: Global, status: &TradeStatus) -> Result<Vec<String>, Allo
     Ok(texts)
 }
 
-fn append_statuses(
+fn append_trade_statuses(
     alloc: Global,
     records: &mut Vec<Vec<String>>,
     trades: &[TradeStatus],
@@ -156,7 +157,7 @@ fn append_statuses(
     ensures { OnOk result (texts_of_records records.new ≡ texts_of_records records.old ++ map statuses.trade_status_record trades.now) }
 {
     for trade in trades {
-        let texts = status_texts(alloc, trade)?;
+        let texts = trade_status_texts(alloc, trade)?;
         records.push(texts)?;
     }
     Ok(())
@@ -171,6 +172,6 @@ pub(crate) fn status_records(
     let mut records = Vec::new(alloc);
     let names = party_texts(alloc, account)?;
     records.push(names)?;
-    append_statuses(alloc, &mut records, &account.trades)?;
+    append_trade_statuses(alloc, &mut records, &account.trades)?;
     Ok(records)
 }

@@ -59,7 +59,7 @@ fn append_flags(alloc: Global, texts: &mut Vec<String>, trade: &TradeRow) -> Res
     push_text(alloc, texts, lifo_or_fifo_word(trade.is_lifo))
 }
 
-fn looked_up_texts(alloc: Global, trade: &TradeRow) -> Result<Vec<String>, AllocError>
+fn trade_record_texts(alloc: Global, trade: &TradeRow) -> Result<Vec<String>, AllocError>
     ensures { IfOk result (λ texts. texts_of_record texts ≡ model.trade_record (abstract_trade_row trade.now)) }
 {
     let mut texts = trade_head(alloc, trade)?;
@@ -152,7 +152,7 @@ fn append_trade_record(
 ) -> Result<(), AllocError>
     ensures { OnOk result (texts_of_records records.new ≡ texts_of_records records.old ++ model.trade_record (abstract_trade_row trade.now) ∷ []) }
 {
-    records.push(looked_up_texts(alloc, trade)?)?;
+    records.push(trade_record_texts(alloc, trade)?)?;
     Ok(())
 }
 

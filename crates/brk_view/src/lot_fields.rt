@@ -20,7 +20,7 @@ fn touch_texts(alloc: Global, touch: LotTouch) -> Result<Vec<String>, AllocError
     Ok(texts)
 }
 
-fn append_lot_rows(
+fn append_touch_records(
     alloc: Global,
     records: &mut Vec<Vec<String>>,
     touches: &[LotTouch],
@@ -53,7 +53,7 @@ pub(crate) fn lot_records(
     if let Some(lots) = lots {
         let found = touching_trade_texts(alloc, lots)?;
         records.push(found)?;
-        append_lot_rows(alloc, &mut records, &lots.changes)?;
+        append_touch_records(alloc, &mut records, &lots.changes)?;
     }
     Ok(records)
 }

@@ -23,7 +23,7 @@ pub use broker_names::{BrokerNames, parse_brokers};
 pub use lookups::{
     LookedUp, create_looked_up_trade, lookup_account, lookup_ids, lookup_symbol, sort_oldest_first,
 };
-pub use named_trades::{NamedTrades, parse_named};
+pub use named_trades::{NamedTrades, parse_named_trades};
 pub use parse::{parse_for_view, parse_query};
 pub use query::Query;
 pub use recents::{Activity, recent};

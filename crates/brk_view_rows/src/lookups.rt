@@ -1,4 +1,5 @@
-//! Trades that are looked up, with their settlement, cash row and history.
+//! The views `trades`, `accounttrades` and `symboltrades`: trades with their settlement, cash row
+//! and history. The `lookup_` functions look nothing up: the caller passes the trades.
 
 ghost use Rattle.std.specs.Prelude.{◌≡◌, ◌&&◌, ◌==◌, ℕ, Bool, IfOk, List, bytes_eq, filter, flat_map, map, take};
 ghost use Rattle.brk_ref.specs.Rows.{abstract_trade_row};

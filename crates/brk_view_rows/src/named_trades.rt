@@ -30,7 +30,7 @@ impl NamedTrades {
 
 /// Parses the ids, one from each field. Refuses a malformed field with `BadText` (18), and
 /// otherwise as `NamedTrades::new` does.
-pub fn parse_named(alloc: Global, fields: &[&[u8]]) -> Planned<NamedTrades, AllocError>
+pub fn parse_named_trades(alloc: Global, fields: &[&[u8]]) -> Planned<NamedTrades, AllocError>
     ensures read { IfOk result (λ read. ParsesAs (λ named. named.trades) read (read_distinct_ids (texts_of_fields fields.now))) }
 {
     match parse_trade_ids(alloc, fields)? {

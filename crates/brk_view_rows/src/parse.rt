@@ -11,10 +11,10 @@ ghost use Rattle.brk_view_rows.specs.Queries.{abstract_query};
 ghost use Rattle.brk_view_rows.specs.ViewNames.{text_of_view_name};
 
 use crate::parse_accounts::{
-    parse_account_status_query, parse_by_tax_id, parse_customer, parse_recent,
+    parse_account_status_query, parse_customer, parse_customer_by_tax_id, parse_recent,
 };
 use crate::parse_lookups::{
-    parse_by_account, parse_by_symbol, parse_lots, parse_trades, parse_volume,
+    parse_account_trades, parse_lots, parse_symbol_trades, parse_trades, parse_volume,
 };
 use crate::query::Query;
 use crate::view_name::ViewName;
@@ -62,12 +62,12 @@ pub fn parse_for_view(
         ViewName::Submitted => Ok(parse_submitted(arguments)),
         ViewName::Estimate => parse_estimate(alloc, arguments),
         ViewName::Customer => Ok(parse_customer(arguments)),
-        ViewName::TaxId => parse_by_tax_id(alloc, arguments),
+        ViewName::TaxId => parse_customer_by_tax_id(alloc, arguments),
         ViewName::Recent => Ok(parse_recent(arguments)),
         ViewName::Status => Ok(parse_account_status_query(arguments)),
         ViewName::Trades => parse_trades(alloc, arguments),
-        ViewName::AccountTrades => Ok(parse_by_account(arguments)),
-        ViewName::SymbolTrades => parse_by_symbol(alloc, arguments),
+        ViewName::AccountTrades => Ok(parse_account_trades(arguments)),
+        ViewName::SymbolTrades => parse_symbol_trades(alloc, arguments),
         ViewName::Lots => Ok(parse_lots(arguments)),
         ViewName::Volume => parse_volume(alloc, arguments),
     }

@@ -25,7 +25,10 @@ pub(crate) fn parse_customer(arguments: &[&[u8]]) -> Result<Query, Refusal>
     Ok(Query::Position(customer))
 }
 
-pub(crate) fn parse_by_tax_id(alloc: Global, arguments: &[&[u8]]) -> Planned<Query, AllocError>
+pub(crate) fn parse_customer_by_tax_id(
+    alloc: Global,
+    arguments: &[&[u8]],
+) -> Planned<Query, AllocError>
     ensures read { IfOk result (λ read. ParsesAs abstract_query read
         (read_single_argument (read_and_wrap PositionOfTaxId read_tax_id) (texts_of_fields arguments.now))) }
 {

@@ -9,7 +9,7 @@ ghost use Rattle.brk_ref.specs.Fields.{ParsesAs, texts_of_fields};
 ghost use Rattle.brk_view_rows.specs.Queries.{abstract_query};
 
 use crate::broker_names::parse_brokers;
-use crate::named_trades::parse_named;
+use crate::named_trades::parse_named_trades;
 use crate::query::Query;
 use brk_money::{Planned, Refusal};
 use brk_ref::{Name, Span, Symbol, parse_id, parse_stamp};
@@ -18,13 +18,13 @@ use std::alloc::{AllocError, Global};
 pub(crate) fn parse_trades(alloc: Global, arguments: &[&[u8]]) -> Planned<Query, AllocError>
     ensures read { IfOk result (λ read. ParsesAs abstract_query read (read_and_wrap TradesWith read_distinct_ids (texts_of_fields arguments.now))) }
 {
-    match parse_named(alloc, arguments)? {
+    match parse_named_trades(alloc, arguments)? {
         Ok(trades) => Ok(Ok(Query::Trades(trades))),
         Err(refusal) => Ok(Err(refusal)),
     }
 }
 
-pub(crate) fn parse_by_account(arguments: &[&[u8]]) -> Result<Query, Refusal>
+pub(crate) fn parse_account_trades(arguments: &[&[u8]]) -> Result<Query, Refusal>
     ensures { ParsesAs abstract_query result
         (read_value_and_stamps read_id (λ account first last. TradesOfAccount account first last) (texts_of_fields arguments.now)) }
 {
@@ -44,7 +44,7 @@ pub(crate) fn parse_by_account(arguments: &[&[u8]]) -> Result<Query, Refusal>
     Ok(Query::AccountTrades { account, span })
 }
 
-pub(crate) fn parse_by_symbol(alloc: Global, arguments: &[&[u8]]) -> Planned<Query, AllocError>
+pub(crate) fn parse_symbol_trades(alloc: Global, arguments: &[&[u8]]) -> Planned<Query, AllocError>
     ensures read { IfOk result (λ read. ParsesAs abstract_query read
         (read_value_and_stamps read_symbol (λ symbol first last. TradesOfSymbol symbol first last) (texts_of_fields arguments.now))) }
 {

@@ -1,4 +1,4 @@
-//! The last trades of an account and their statuses.
+//! The view `recent`: the last trades of an account and their statuses.
 
 ghost use Rattle.std.specs.Prelude.{◌≡◌, ◌++◌, ℕ, Err, IfOk, OnErr, flat_map, map};
 ghost use Rattle.std.specs.Global.{Vec};

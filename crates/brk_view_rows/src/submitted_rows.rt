@@ -1,4 +1,4 @@
-//! The submitted trades, from their rows.
+//! The view `submitted`: the submitted trades, from their rows.
 
 ghost use Rattle.std.specs.Prelude.{◌≡◌, IfOk, OnErr, Err, filter, map};
 ghost use Rattle.std.specs.Global.{Vec};

@@ -1,5 +1,5 @@
-//! The volumes of brokers in a sector: the value, at the bid prices, of their pending requests for
-//! securities of the sector.
+//! The view `volume`: the volumes of brokers in a sector, each the value, at the bid prices, of the
+//! pending requests for securities of the sector.
 
 ghost use Rattle.std.specs.Prelude.{◌≡◌, ◌≤◌, Err, IfOk, List, OnErr, filter, map, pos, sum_by};
 ghost use Rattle.std.specs.Global.{Vec};
@@ -32,6 +32,7 @@ pub struct BrokerVolume {
     pub volume: Wide,
 }
 
+// By name, then by id, ascending.
 #[tactic(auto, using(crate::proofs::Names::names_compared))]
 fn before_by_name(one: &BrokerVolume, other: &BrokerVolume) -> bool
     ensures { result ≡ is_before_by_broker_name one.now other.now }

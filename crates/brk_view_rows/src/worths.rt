@@ -1,4 +1,5 @@
-//! The balances and market values of a customer's accounts.
+//! The views `customer` and `taxid`: the balances and market values of a customer's accounts.
+//! `position` is named for Customer-Position, not for a position in a security.
 
 ghost use Rattle.std.specs.Prelude.{◌≡◌, ◌&&◌, ◌==◌, Bool, Err, IfOk, OnErr, filter, map};
 ghost use Rattle.std.specs.Global.{Vec};

@@ -1,4 +1,5 @@
-//! Theorems about the views of trades that are looked up, and of the lots that a trade touched.
+//! Theorems about the views of trades that are looked up, and of the lots that a trade touched; and
+//! about the rows that are read for views: unique by key, and complete if read key by key.
 
 ghost use Rattle.std.specs.Prelude.{◌≡◌, ◌==◌, ℕ, Bool, List, filter, find, flat_map, map, option_to_list, true};
 ghost use Rattle.brk_model.specs.Base.{Base};

@@ -17,7 +17,7 @@ returns g c =
     let customer = c.in_ok-customer.customer in
     let tested = c.in_ok-tested.tested in
     let amounts = c.in_ok-amounts.amounts in
-    read_with g.S.Store old c.order_check_facts.new.store c.estimate_amounts.new.store {H = CallFault} tested amounts c.facts_with_account.result
+    read_with g.S.Store old c.order_check_facts.new.store c.read_order_amounts.new.store {H = CallFault} tested amounts c.facts_with_account.result
     (λ tested (t : Tables). IsCustomerWithId t account.account.customer customer × CustomerOrderFactsMatchTables t order customer tested)
     (λ amounts (t : Tables). EstimateAmountsMatchTables t account order amounts)
     (λ found (t : Tables). EstimateFactsMatchIfAccountOfOrder t order account found)
@@ -39,7 +39,7 @@ pub returns-in_err-amounts : goal.returns-in_err-amounts
 returns-in_err-amounts g c =
     let old = c.args.store.now in
     let p = err_from_is_err_and c.from_residual-in_err-amounts.result c.from_residual-in_err-amounts.ensures.1 in
-    rw p.1 (failed_after g.S.Store old c.order_check_facts.new.store c.estimate_amounts.new.store _ p.0 _ _
+    rw p.1 (failed_after g.S.Store old c.order_check_facts.new.store c.read_order_amounts.new.store _ p.0 _ _
     (unchanged_after g.S.Store old c.require_customer.new.store c.order_check_facts.new.store _ _
     (single_read_changes_nothing old c.require_customer.new.store _ _ c.in_ok-customer.ensures.read) c.in_ok-tested.ensures)
     c.in_err-amounts.ensures)

@@ -17,7 +17,7 @@ pub returns-in_ok-found-in-Some-clause-read : goal.returns-in_ok-found-in-Some-c
 returns-in_ok-found-in-Some-clause-read g c =
     let row : TradeRow = c.in-Some.row in
     let found = c.in_ok-found-in-Some.found in
-    read_with g.S.Store c.args.store.now c.trade.new.self c.trade_facts.new.store {H = CallFault} (Some row) found (Some found)
+    read_with g.S.Store c.args.store.now c.trade.new.self c.result_facts_of_row.new.store {H = CallFault} (Some row) found (Some found)
     (λ o (t : Tables). option_map abstract_trade_row o ≡ find (λ (r : tables.TradeRow). r.id == c.args.trade) t.trades)
     (λ found (t : Tables). AreResultFactsOfTrade t row found)
     (λ o (t : Tables). AreResultFactsOfTradeWithId t c.args.trade o)
@@ -36,5 +36,5 @@ pub returns-in_err-found-in-Some-clause-read : goal.returns-in_err-found-in-Some
 returns-in_err-found-in-Some-clause-read g c =
     let old = c.args.store.now in
     let p = err_from_is_err_and c.from_residual-in_err-found-in-Some.result c.from_residual-in_err-found-in-Some.ensures.1 in
-    rw p.1 (failed_after g.S.Store old c.trade.new.self c.trade_facts.new.store _ p.0 _ _
+    rw p.1 (failed_after g.S.Store old c.trade.new.self c.result_facts_of_row.new.store _ p.0 _ _
     (single_read_changes_nothing old c.trade.new.self _ _ c.in_ok-row.ensures.read) c.in_err-found-in-Some.ensures.read)

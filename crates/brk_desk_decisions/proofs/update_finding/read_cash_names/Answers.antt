@@ -25,7 +25,7 @@ FirstPaid symbol first last rows paid i t =
 pub loop-trade-init : goal.loop-trade-init
 loop-trade-init g c =
     let span = c.args.span in
-    retold g.S.Store c.args.store.now c.completed_cash_trades_of_symbol.new.self c.in_ok-trades.trades tt
+    retold g.S.Store c.args.store.now c.twenty_completed_cash_trades.new.self c.in_ok-trades.trades tt
     (λ all (t : Tables). map abstract_trade_row all.items ≡ first_twenty_completed_cash_trade_rows_of_symbol c.args.symbol.now span.first span.last t)
     (λ _. FirstPaid c.args.symbol.now span.first span.last c.deref-trade-items.result.now c.new-paid.result.items 0)
     (λ t e. (ap (map abstract_trade_row) c.deref-trade-items.ensures.value ∙ e, ap (map cash_text_row_of_typed_row) c.new-paid.ensures.items))

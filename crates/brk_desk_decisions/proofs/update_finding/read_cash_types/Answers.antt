@@ -23,7 +23,7 @@ FirstSettled account first last rows settled i t =
 pub loop-trade-init : goal.loop-trade-init
 loop-trade-init g c =
     let span = c.args.span in
-    retold g.S.Store c.args.store.now c.completed_trades_of_account.new.self c.in_ok-trades.trades tt
+    retold g.S.Store c.args.store.now c.twenty_completed_trades.new.self c.in_ok-trades.trades tt
     (λ all (t : Tables). map abstract_trade_row all.items ≡ first_twenty_completed_trade_rows_of_account c.args.account span.first span.last t)
     (λ _. FirstSettled c.args.account span.first span.last c.deref-trade-items.result.now c.new-settled.result.items 0)
     (λ t e. (ap (map abstract_trade_row) c.deref-trade-items.ensures.value ∙ e, ap (map settlement_text_row_of_typed_row) c.new-settled.ensures.items))

@@ -31,7 +31,7 @@ returns-in-Ok g c =
     let trades = c.in_ok-trades.trades in
     let history = c.in_ok-trades.history in
     let view = c.in-Ok.view in
-    read_with g.S.Store c.args.store.now c.account.new.self c.recent_trades.new.store {X = Result View Refusal} {H = CallFault} (Some a) (trades, history) (Ok view)
+    read_with g.S.Store c.args.store.now c.account.new.self c.recent_trades_with_history.new.store {X = Result View Refusal} {H = CallFault} (Some a) (trades, history) (Ok view)
     (λ o (t : Tables). option_map abstract_account_row o ≡ find (λ r. r.id == id) t.accounts)
     (λ found (t : Tables). AreRecentTradesWithHistory id found.0.items found.1.items t)
     (AnswersQueryAsModel (RecentOf id))
@@ -42,12 +42,12 @@ pub returns-in_err-trades : goal.returns-in_err-trades
 returns-in_err-trades g c =
     let old = c.args.store.now in
     let p = err_from_is_err_and c.from_residual-in_err-trades.result c.from_residual-in_err-trades.ensures.1 in
-    rw p.1 (failed_after g.S.Store old c.account.new.self c.recent_trades.new.store _ p.0 _ _
+    rw p.1 (failed_after g.S.Store old c.account.new.self c.recent_trades_with_history.new.store _ p.0 _ _
     (single_read_changes_nothing old c.account.new.self _ _ c.in_ok-found.ensures.read) c.in_err-trades.ensures)
 
 pub returns : goal.returns
 returns g c =
     let old = c.args.store.now in
-    none_read g.S.Store old c.recent_trades.new.store call.Memory _
-    (unchanged_after g.S.Store old c.account.new.self c.recent_trades.new.store _ _
+    none_read g.S.Store old c.recent_trades_with_history.new.store call.Memory _
+    (unchanged_after g.S.Store old c.account.new.self c.recent_trades_with_history.new.store _ _
     (single_read_changes_nothing old c.account.new.self _ _ c.in_ok-found.ensures.read) c.in_ok-trades.ensures)

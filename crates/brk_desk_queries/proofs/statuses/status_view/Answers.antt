@@ -36,7 +36,7 @@ returns g c =
     let trades = c.in_ok-trades.trades in
     let found = c.in_ok-found.found in
     let view = c.status.result in
-    read_with g.S.Store old c.fifty_trades_with_securities.new.store c.account_status.new.store {X = Result View Refusal} {H = CallFault} (Some row) found (Ok view)
+    read_with g.S.Store old c.fifty_trades_with_securities.new.store c.status_with_parties.new.store {X = Result View Refusal} {H = CallFault} (Some row) found (Ok view)
     (λ o (t : Tables). IsRowOf id o t × AreRecentTradesWithSecurities id trades.items t)
     (λ found. IsAccountStatusWithTrades (abstract_account_row row) trades found)
     (AnswersQueryAsModel (StatusOf id))
@@ -57,6 +57,6 @@ pub returns-in_err-found : goal.returns-in_err-found
 returns-in_err-found g c =
     let old = c.args.store.now in
     let p = err_from_is_err_and c.from_residual-in_err-found.result c.from_residual-in_err-found.ensures.1 in
-    rw p.1 (failed_after g.S.Store old c.fifty_trades_with_securities.new.store c.account_status.new.store _ p.0 _ _
+    rw p.1 (failed_after g.S.Store old c.fifty_trades_with_securities.new.store c.status_with_parties.new.store _ p.0 _ _
     (unchanged_after g.S.Store old c.account.new.self c.fifty_trades_with_securities.new.store _ _
     (single_read_changes_nothing old c.account.new.self _ _ c.in_ok-row.ensures.read) c.in_ok-trades.ensures) c.in_err-found.ensures)

@@ -17,9 +17,9 @@ returns-in_err-write_lines-clause-written g c = λ clean t holds.
     let a = abstract_account_row c.args.details.now.account in
     let bottom = holding_and_total_lines a (map abstract_priced_holding c.args.details.now.held.items) (length (account_cash_rows_by_stamp t c.args.account))
     (length (holding_rows_of_account t c.args.account)) in
-    let wrote = text_written {R = Unit {0}} (account_header_lines a) c.header_text.result (g.W.Write.contents c.args.writer.now)
+    let wrote = text_written {R = Unit {0}} (account_header_lines a) c.account_header_text.result (g.W.Write.contents c.args.writer.now)
     (g.W.Write.contents c.write_lines.new.writer) (Err c.in_err-write_lines.field-0.0) (top_first a) c.in_err-write_lines.ensures.written
-    c.header_text.ensures in
+    c.account_header_text.ensures in
     breaks_as _ _ _ _ _ c.from_residual.ensures.1
     (breaks_before (account_header_lines a) (account_cash_lines t c.args.account a.opening ++ (balance_and_lot_header_lines a ++ (account_lot_lines t c.args.account ++ bottom))) _ _ _ wrote)
 
@@ -28,9 +28,9 @@ returns-in_err-cash-clause-written g c = λ clean t holds.
     let a = abstract_account_row c.args.details.now.account in
     let bottom = holding_and_total_lines a (map abstract_priced_holding c.args.details.now.held.items) (length (account_cash_rows_by_stamp t c.args.account))
     (length (holding_rows_of_account t c.args.account)) in
-    let top = text_written {R = Unit {0}} (account_header_lines a) c.header_text.result (g.W.Write.contents c.args.writer.now)
+    let top = text_written {R = Unit {0}} (account_header_lines a) c.account_header_text.result (g.W.Write.contents c.args.writer.now)
     (g.W.Write.contents c.write_lines.new.writer) (Ok c.in_ok-write_lines.field-0) (top_first a) c.in_ok-write_lines.ensures.written
-    c.header_text.ensures in
+    c.account_header_text.ensures in
     let cash = account_cash_lines t c.args.account a.opening in
     let rest = balance_and_lot_header_lines a ++ (account_lot_lines t c.args.account ++ bottom) in
     breaks_as _ _ _ _ _ c.from_residual-in_err-cash.ensures.1
@@ -42,9 +42,9 @@ returns-in_err-write_lines-2-clause-written g c = λ clean t holds.
     let a = abstract_account_row c.args.details.now.account in
     let bottom = holding_and_total_lines a (map abstract_priced_holding c.args.details.now.held.items) (length (account_cash_rows_by_stamp t c.args.account))
     (length (holding_rows_of_account t c.args.account)) in
-    let top = text_written {R = Unit {0}} (account_header_lines a) c.header_text.result (g.W.Write.contents c.args.writer.now)
+    let top = text_written {R = Unit {0}} (account_header_lines a) c.account_header_text.result (g.W.Write.contents c.args.writer.now)
     (g.W.Write.contents c.write_lines.new.writer) (Ok c.in_ok-write_lines.field-0) (top_first a) c.in_ok-write_lines.ensures.written
-    c.header_text.ensures in
+    c.account_header_text.ensures in
     let balance = text_written {R = Unit {0}} (balance_and_lot_header_lines a) c.lots_head_text.result (g.W.Write.contents c.write_postings.new.writer)
     (g.W.Write.contents c.write_lines-2.new.writer) (Err c.in_err-write_lines-2.field-0.0) (balance_first a) c.in_err-write_lines-2.ensures.written
     c.lots_head_text.ensures in
@@ -61,9 +61,9 @@ returns-in_err-lots-clause-written g c = λ clean t holds.
     let bottom = holding_and_total_lines a held (length (account_cash_rows_by_stamp t c.args.account)) (length (holding_rows_of_account t c.args.account)) in
     let mid = clean_then g.S.Store c.write_postings.new.desk c.write_open_lots.new.desk c.write_open_lots.ensures.keeps clean in
     let still = c.write_postings.ensures.keeps.same_rows t holds in
-    let top = text_written {R = Unit {0}} (account_header_lines a) c.header_text.result (g.W.Write.contents c.args.writer.now)
+    let top = text_written {R = Unit {0}} (account_header_lines a) c.account_header_text.result (g.W.Write.contents c.args.writer.now)
     (g.W.Write.contents c.write_lines.new.writer) (Ok c.in_ok-write_lines.field-0) (top_first a) c.in_ok-write_lines.ensures.written
-    c.header_text.ensures in
+    c.account_header_text.ensures in
     let balance = text_written {R = Unit {0}} (balance_and_lot_header_lines a) c.lots_head_text.result (g.W.Write.contents c.write_postings.new.writer)
     (g.W.Write.contents c.write_lines-2.new.writer) (Ok c.in_ok-write_lines-2.field-0) (balance_first a) c.in_ok-write_lines-2.ensures.written
     c.lots_head_text.ensures in
@@ -84,9 +84,9 @@ returns-clause-written g c = λ clean t holds.
     let bottom = holding_and_total_lines a held (length (account_cash_rows_by_stamp t c.args.account)) (length (holding_rows_of_account t c.args.account)) in
     let mid = clean_then g.S.Store c.write_postings.new.desk c.write_open_lots.new.desk c.write_open_lots.ensures.keeps clean in
     let still = c.write_postings.ensures.keeps.same_rows t holds in
-    let top = text_written {R = Unit {0}} (account_header_lines a) c.header_text.result (g.W.Write.contents c.args.writer.now)
+    let top = text_written {R = Unit {0}} (account_header_lines a) c.account_header_text.result (g.W.Write.contents c.args.writer.now)
     (g.W.Write.contents c.write_lines.new.writer) (Ok c.in_ok-write_lines.field-0) (top_first a) c.in_ok-write_lines.ensures.written
-    c.header_text.ensures in
+    c.account_header_text.ensures in
     let balance = text_written {R = Unit {0}} (balance_and_lot_header_lines a) c.lots_head_text.result (g.W.Write.contents c.write_postings.new.writer)
     (g.W.Write.contents c.write_lines-2.new.writer) (Ok c.in_ok-write_lines-2.field-0) (balance_first a) c.in_ok-write_lines-2.ensures.written
     c.lots_head_text.ensures in

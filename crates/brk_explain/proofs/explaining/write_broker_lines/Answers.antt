@@ -13,9 +13,9 @@ pub returns-in_err-write_lines-clause-written : goal.returns-in_err-write_lines-
 returns-in_err-write_lines-clause-written g c = λ clean t holds.
     let b = abstract_broker_row c.args.details.now.broker in
     let end = broker_total_lines b c.args.details.now.accounts (length (completed_trades_of_broker t c.args.broker)) in
-    let wrote = text_written {R = Unit {0}} (broker_header_lines b) c.broker_head.result (g.W.Write.contents c.args.writer.now)
+    let wrote = text_written {R = Unit {0}} (broker_header_lines b) c.broker_header_text.result (g.W.Write.contents c.args.writer.now)
     (g.W.Write.contents c.write_lines.new.writer) (Err c.in_err-write_lines.field-0.0) (broker_top_first b) c.in_err-write_lines.ensures.written
-    c.broker_head.ensures in
+    c.broker_header_text.ensures in
     breaks_as _ _ _ _ _ c.from_residual.ensures.1 (breaks_before (broker_header_lines b) (broker_trade_lines t c.args.broker ++ end) _ _ _ wrote)
 
 pub returns-in_err-trades-clause-written : goal.returns-in_err-trades-clause-written
@@ -23,9 +23,9 @@ returns-in_err-trades-clause-written g c = λ clean t holds.
     let b = abstract_broker_row c.args.details.now.broker in
     let n = length (completed_trades_of_broker t c.args.broker) in
     let end = broker_total_lines b c.args.details.now.accounts n in
-    let top = text_written {R = Unit {0}} (broker_header_lines b) c.broker_head.result (g.W.Write.contents c.args.writer.now)
+    let top = text_written {R = Unit {0}} (broker_header_lines b) c.broker_header_text.result (g.W.Write.contents c.args.writer.now)
     (g.W.Write.contents c.write_lines.new.writer) (Ok c.in_ok-write_lines.field-0) (broker_top_first b) c.in_ok-write_lines.ensures.written
-    c.broker_head.ensures in
+    c.broker_header_text.ensures in
     let rows = broker_trade_lines t c.args.broker in
     breaks_as _ _ _ _ _ c.from_residual-in_err-trades.ensures.1
     (breaks_behind (broker_header_lines b) (rows ++ end) _ _ _ _ top
@@ -37,9 +37,9 @@ returns-clause-written g c = λ clean t holds.
     let accounts = c.args.details.now.accounts in
     let trades = c.in_ok-trades.trades in
     let n = length (completed_trades_of_broker t c.args.broker) in
-    let top = text_written {R = Unit {0}} (broker_header_lines b) c.broker_head.result (g.W.Write.contents c.args.writer.now)
+    let top = text_written {R = Unit {0}} (broker_header_lines b) c.broker_header_text.result (g.W.Write.contents c.args.writer.now)
     (g.W.Write.contents c.write_lines.new.writer) (Ok c.in_ok-write_lines.field-0) (broker_top_first b) c.in_ok-write_lines.ensures.written
-    c.broker_head.ensures in
+    c.broker_header_text.ensures in
     let rows = broker_trade_lines t c.args.broker in
     let done = c.in_ok-trades.ensures.written clean t holds in
     let end = text_written (broker_total_lines b accounts trades) c.broker_end_text.result (g.W.Write.contents c.write_commissions.new.writer)

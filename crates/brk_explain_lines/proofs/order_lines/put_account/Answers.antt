@@ -8,10 +8,10 @@ pub returns : goal.returns
 returns c =
     let name = c.as_bytes.ensures.value ∙ c.as_str.ensures in
     let o = c.args.out.now.items in
-    let x1 = c.label_number.new.out.items in
+    let x1 = c.put_labeled_number.new.out.items in
     let t1a = labeled_number (codes "Account") c.get.result in
     let s1 = t1a in
-    let h1 = c.in_ok-label_number.ensures in
+    let h1 = c.in_ok-put_labeled_number.ensures in
     let x2 = c.put_spaced_line.new.out.items in
     let t2a = 32 ∷ c.as_bytes.result.now in
     on_ok {P = x2 ≡ x1 ++ line_with_line_feed t2a} c.put_spaced_line.result c.put_spaced_line.ensures (λ h. line_end o s1 t2a x1 x2 h1 h

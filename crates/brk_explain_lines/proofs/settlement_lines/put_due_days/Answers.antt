@@ -17,7 +17,7 @@ returns c =
     let o = c.args.out.now.items in
     let x1 = c.put_day_fact.new.out.items in
     let a1 = line_with_line_feed (labeled_text (codes "Completed on") (day_text c.day_of-completed.result)) in
-    let x2 = c.put_some_day.new.out.items in
+    let x2 = c.put_optional_day.new.out.items in
     let a2 = line_with_line_feed (labeled_text (codes "One day from") (option_map_or day_text rule (codes "none"))) in
     let x3 = c.put_number_fact.new.out.items in
     let a3 = line_with_line_feed (labeled_number (codes "Days to settle") c.from.result) in
@@ -28,7 +28,7 @@ returns c =
     let r2 = a2 ++ r3 in
     on_ok {P = x4 ≡ x3 ++ a4} c.put_day_fact-2.result c.put_day_fact-2.ensures
     (λ h. more o a1 r2 x1 x4 c.in_ok-put_day_fact.ensures
-    (more x1 a2 r3 x2 x4 c.in_ok-put_some_day.ensures (more x2 a3 r4 x3 x4 c.in_ok-put_number_fact.ensures (last x3 a4 x4 h)))
+    (more x1 a2 r3 x2 x4 c.in_ok-put_optional_day.ensures (more x2 a3 r4 x3 x4 c.in_ok-put_number_fact.ensures (last x3 a4 x4 h)))
     ∙ (λ i. o ++ text_of_lines
     ((labeled_text (codes "Completed on") (day_text (c.day_of-completed.ensures i)))
     ∷ (labeled_text (codes "One day from") (option_map_or day_text rule (codes "none"))) ∷ (labeled_number (codes "Days to settle") (days i))

@@ -14,11 +14,11 @@ returns c =
     let x1 = c.put_amount_fact.new.out.items in
     let a1 = line_with_line_feed (labeled_amount (codes "Value") c.signed_trade_value.result) in
     let x2 = c.put_amount_fact-2.new.out.items in
-    let a2 = line_with_line_feed (labeled_amount (codes "Charge") c.less_charge.result) in
+    let a2 = line_with_line_feed (labeled_amount (codes "Charge") c.negated_charge.result) in
     let x3 = c.put_amount_fact-3.new.out.items in
-    let a3 = line_with_line_feed (labeled_amount (codes "Commission") c.less_commission.result) in
+    let a3 = line_with_line_feed (labeled_amount (codes "Commission") c.negated_commission.result) in
     let x4 = c.put_amount_fact-4.new.out.items in
-    let a4 = line_with_line_feed (labeled_amount (codes "Tax withheld") c.less_tax.result) in
+    let a4 = line_with_line_feed (labeled_amount (codes "Tax withheld") c.negated_withheld_tax.result) in
     let x5 = c.put_amount_fact-5.new.out.items in
     let a5 = line_with_line_feed (labeled_amount (codes "Settlement") c.from.result) in
     let x6 = c.put_text_fact.new.out.items in
@@ -35,6 +35,6 @@ returns c =
     (more x4 a5 r6 x5 x6 c.in_ok-put_amount_fact-5.ensures (last x5 a6 x6 c.in_ok-put_text_fact.ensures)))))
     ∙ (λ i.
     c.args.out.now.items
-    ++ text_of_lines (labeled_amount (codes "Value") (c.signed_trade_value.ensures i) ∷ labeled_amount (codes "Charge") (c.less_charge.ensures i)
-    ∷ labeled_amount (codes "Commission") (c.less_commission.ensures i)
-    ∷ labeled_amount (codes "Tax withheld") (c.less_tax.ensures i) ∷ labeled_amount (codes "Settlement") (c.from.ensures i) ∷ labeled_text (codes "Cash type") (word i) ∷ []))
+    ++ text_of_lines (labeled_amount (codes "Value") (c.signed_trade_value.ensures i) ∷ labeled_amount (codes "Charge") (c.negated_charge.ensures i)
+    ∷ labeled_amount (codes "Commission") (c.negated_commission.ensures i)
+    ∷ labeled_amount (codes "Tax withheld") (c.negated_withheld_tax.ensures i) ∷ labeled_amount (codes "Settlement") (c.from.ensures i) ∷ labeled_text (codes "Cash type") (word i) ∷ []))

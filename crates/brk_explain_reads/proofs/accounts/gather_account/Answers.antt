@@ -27,7 +27,7 @@ returns g c =
     let row = c.in-Some.row in
     let held = c.in_ok-held.held in
     let details : AccountDetails = record { account = row; held = held } in
-    read_with g.S.Store c.args.store.now c.account.new.self c.price_holdings.new.store {H = CallFault} (Some row) held (Some details)
+    read_with g.S.Store c.args.store.now c.account.new.self c.read_priced_holdings.new.store {H = CallFault} (Some row) held (Some details)
     (IsRowOf c.args.account) (λ held (t : Tables). map abstract_priced_holding held.items ≡ priced_holdings_of_account t c.args.account) (AreDetailsOfAccount c.args.account)
     (λ t e k. (sym e, k))
     (rw c.in-Some.is at c.in_ok-row.ensures.read) c.in_ok-held.ensures
@@ -36,6 +36,6 @@ pub returns-in_err-held : goal.returns-in_err-held
 returns-in_err-held g c =
     let old = c.args.store.now in
     let mid = c.account.new.self in
-    let end = c.price_holdings.new.store in
+    let end = c.read_priced_holdings.new.store in
     let p = err_from_is_err_and c.from_residual-in_err-held.result c.from_residual-in_err-held.ensures.1 in
     rw p.1 (none_read g.S.Store old end p.0 _ (both_change_nothing g.S.Store old mid end _ _ _ _ c.in_ok-row.ensures.read c.in_err-held.ensures))

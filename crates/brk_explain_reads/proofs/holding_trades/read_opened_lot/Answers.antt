@@ -18,7 +18,7 @@ pub returns-in_default : goal.returns-in_default
 returns-in_default g c =
     let trade = c.args.trade in
     let all = c.in_ok-all.all in
-    retold g.S.Store c.args.store.now c.read_changes.new.store {X = Option LotDetails} all None
+    retold g.S.Store c.args.store.now c.read_changes_of_lot.new.store {X = Option LotDetails} all None
     (λ all (t : Tables). AreLotChangesByCompletion t trade all) (λ lot (t : Tables). option_map abstract_lot_details lot ≡ lot_opened_by_trade t trade)
     (λ t k. no_lot_known t trade (ap (option_map rows.abstract_lot_change_row) (sym c.in_default.is) ∙ k.0))
     c.in_ok-all.ensures
@@ -30,7 +30,7 @@ returns g c =
     let first = c.in-Some.first in
     let row = c.in_ok-row.row in
     let made = c.lot_of_opening.ensures in
-    read_with g.S.Store c.args.store.now c.read_changes.new.store c.require_trade.new.store {H = CallFault} all row (Some c.lot_of_opening.result)
+    read_with g.S.Store c.args.store.now c.read_changes_of_lot.new.store c.require_trade.new.store {H = CallFault} all row (Some c.lot_of_opening.result)
     (λ all (t : Tables). AreLotChangesByCompletion t trade all) (λ row (t : Tables). trade_row_with_id t trade ≡ Some (abstract_trade_row row))
     (λ lot (t : Tables). option_map abstract_lot_details lot ≡ lot_opened_by_trade t trade)
     (λ t k e. lot_known t trade first row c.lot_of_opening.result (ap (option_map rows.abstract_lot_change_row) (sym c.in-Some.is) ∙ k.0) e
@@ -40,7 +40,7 @@ returns g c =
 pub returns-in_err-row : goal.returns-in_err-row
 returns-in_err-row g c =
     let old = c.args.store.now in
-    let mid = c.read_changes.new.store in
+    let mid = c.read_changes_of_lot.new.store in
     let end = c.require_trade.new.store in
     let p = err_from_is_err_and c.from_residual-in_err-row.result c.from_residual-in_err-row.ensures.1 in
     rw p.1 (none_read g.S.Store old end p.0 _ (both_change_nothing g.S.Store old mid end _ _ _ _ c.in_ok-all.ensures c.in_err-row.ensures.read))

@@ -14,8 +14,8 @@ returns g c =
     let change = c.args.change.now in
     let trade = c.in_ok-trade.trade in
     let price = c.in-Some.price in
-    retold g.S.Store c.args.store.now c.require_trade.new.store trade c.with_price.result
+    retold g.S.Store c.args.store.now c.require_trade.new.store trade c.as_priced_change.result
     (λ trade (t : Tables). trade_row_with_id t change.trade ≡ Some (abstract_trade_row trade))
     (λ priced_change (t : Tables). abstract_priced_lot_change priced_change ≡ recorded_lot_change t (rows.abstract_lot_change_row change))
-    (λ t e. ap abstract_priced_lot_change c.with_price.ensures ∙ step_known t (rows.abstract_lot_change_row change) (abstract_trade_row trade) price e c.in-Some.is)
+    (λ t e. ap abstract_priced_lot_change c.as_priced_change.ensures ∙ step_known t (rows.abstract_lot_change_row change) (abstract_trade_row trade) price e c.in-Some.is)
     c.in_ok-trade.ensures.read

@@ -38,20 +38,20 @@ returns c =
     let o = c.args.out.now.items in
     let x1 = c.put_head_lines.new.out.items in
     let a1 = text_of_lines top in
-    let x2 = c.put_held_trades.new.out.items in
+    let x2 = c.put_holding_trades.new.out.items in
     let a2 = text_of_lines (holding_trade_lines (map abstract_trade_row done)) in
     let x3 = c.put_lot_header.new.out.items in
     let a3 = line_with_line_feed lot_columns_header in
-    let x4 = c.put_histories.new.out.items in
+    let x4 = c.put_lot_histories.new.out.items in
     let a4 = text_of_lines (flat_map lot_history_lines (map abstract_lot_details lots)) in
     let x5 = c.put_holding_end.new.out.items in
     let a5 = text_of_lines (holding_total_lines (map abstract_trade_row done) (map abstract_lot_details lots) shares details.price) in
     let r4 = a4 ++ a5 in
     let r3 = a3 ++ r4 in
     more o a1 (a2 ++ r3) x1 x5 c.in_ok-put_head_lines.ensures
-    (more x1 a2 r3 x2 x5 c.in_ok-put_held_trades.ensures
+    (more x1 a2 r3 x2 x5 c.in_ok-put_holding_trades.ensures
     (more x2 a3 r4 x3 x5 c.in_ok-put_lot_header.ensures
-    (more x3 a4 a5 x4 x5 c.in_ok-put_histories.ensures c.in_ok-put_holding_end.ensures)))
+    (more x3 a4 a5 x4 x5 c.in_ok-put_lot_histories.ensures c.in_ok-put_holding_end.ensures)))
     ∙ (λ i.
     o
     ++ (a1

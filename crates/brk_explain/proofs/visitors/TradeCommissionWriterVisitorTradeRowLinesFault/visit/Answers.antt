@@ -24,4 +24,4 @@ returns-in_err-write_line-clause-stops g c =
     _ c.from_residual-in_err-write_line.ensures.1
     (subst (λ (z : ℤ). FailsWithinLines (trade_commission_line (abstract_trade_row c.args.item.now) z ∷ []) (g.W.Write.contents c.args.self.now.writer.now)
     (g.W.Write.contents c.write_line.new.writer) c.in_err-write_line.field-0.0) c.in_ok-total.ensures.sum
-    (c.in_err-write_line.ensures.written (trade_commission_line (abstract_trade_row c.args.item.now) c.in_ok-total.total) c.commission_text.ensures))
+    (c.in_err-write_line.ensures.written (trade_commission_line (abstract_trade_row c.args.item.now) c.in_ok-total.total) c.trade_commission_text.ensures))
