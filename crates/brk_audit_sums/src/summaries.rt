@@ -82,13 +82,13 @@ fn summary_postings<'a>(
 // Compares the sums at the keys of `postings` only.
 fn sums_agree<K: Ord + Copy>(
     sums: &BTreeMap<K, i128>,
-    told: &BTreeMap<K, i128>,
+    claimed: &BTreeMap<K, i128>,
     postings: &[KeyedAmount<K>],
 ) -> bool
-    ensures { IsTrue result ↔ AllByRecursion (λ p. sum_at_key K.cmp sums.now p.key ≡ sum_at_key K.cmp told.now p.key) postings.now }
+    ensures { IsTrue result ↔ AllByRecursion (λ p. sum_at_key K.cmp sums.now p.key ≡ sum_at_key K.cmp claimed.now p.key) postings.now }
 {
     for posting in postings {
-        if sum_at(sums, posting.key) != sum_at(told, posting.key) {
+        if sum_at(sums, posting.key) != sum_at(claimed, posting.key) {
             return false;
         }
     }

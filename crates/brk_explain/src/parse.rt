@@ -77,25 +77,25 @@ fn parse_holding_request(alloc: Global, words: &[&[u8]]) -> Planned<ExplainReque
     Ok(Ok(ExplainRequest::Holding { account, symbol }))
 }
 
-// `form` is the first word, `words` has the others.
+// `kind` is the first word, `words` has the others.
 #[tactic(auto, unfolding(brk_model_explain::specs::Explain::read_explain_request))]
 fn parse_request_of_kind(
     alloc: Global,
-    form: &[u8],
+    kind: &[u8],
     words: &[&[u8]],
 ) -> Planned<ExplainRequest, AllocError>
-    ensures { IfOk result (λ read. ParsesAs abstract_explain_request read (model.read_explain_request (form.now ∷ texts_of_fields words.now))) }
+    ensures { IfOk result (λ read. ParsesAs abstract_explain_request read (model.read_explain_request (kind.now ∷ texts_of_fields words.now))) }
 {
-    if form == b"trade".as_slice() {
+    if kind == b"trade".as_slice() {
         return Ok(parse_trade_request(words));
     }
-    if form == b"account".as_slice() {
+    if kind == b"account".as_slice() {
         return Ok(parse_account_request(words));
     }
-    if form == b"holding".as_slice() {
+    if kind == b"holding".as_slice() {
         return parse_holding_request(alloc, words);
     }
-    if form == b"broker".as_slice() {
+    if kind == b"broker".as_slice() {
         return Ok(parse_broker_request(words));
     }
     Ok(Err(Refusal::BadText))
@@ -107,8 +107,8 @@ fn parse_request_of_kind(
 pub fn parse_explain(alloc: Global, words: &[&[u8]]) -> Planned<ExplainRequest, AllocError>
     ensures { IfOk result (λ read. ParsesAs abstract_explain_request read (model.read_explain_request (texts_of_fields words.now))) }
 {
-    let [form, rest @ ..] = words else {
+    let [kind, rest @ ..] = words else {
         return Ok(Err(Refusal::BadText));
     };
-    parse_request_of_kind(alloc, form, rest)
+    parse_request_of_kind(alloc, kind, rest)
 }

@@ -46,7 +46,7 @@ trade_type_code StopLoss = codes "TSL"
 trade_type_code LimitSell = codes "TLS"
 trade_type_code LimitBuy = codes "TLB"
 
--- The name of a type of trade (TT_NAME).
+-- The name of a type of trade (TT_NAME), with which the name of a trade's cash row begins.
 abbrev pub trade_type_name : TradeType → List ℕ
 trade_type_name MarketBuy = codes "Market-Buy"
 trade_type_name MarketSell = codes "Market-Sell"

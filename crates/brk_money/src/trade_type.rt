@@ -28,7 +28,8 @@ impl TradeType {
         }
     }
 
-    /// Returns the name of the type (TT_NAME).
+    /// Returns the name of the type (TT_NAME). The name of a trade's cash row begins with it, and an
+    /// audit compares it, so another text would fail the audit of existing files.
     pub fn name(self) -> &'static str
         ensures { result.now ≡ trade_type_name self }
     {

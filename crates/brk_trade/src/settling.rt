@@ -1,5 +1,5 @@
-//! The arithmetic of a settlement: the cost and the proceeds of a completed trade, and the totals
-//! after it.
+//! The arithmetic of a settlement: the cost and the proceeds of a completed trade, its due day, and
+//! the totals after it.
 
 ghost use Rattle.std.specs.Prelude.{◌≡◌, ◌+◌, ◌*◌, ◌≤◌, ◌-ℤ◌, ◌+ℤ◌, ◌&&◌, true, false, nat_lt, nat_abs, pos, if◌then◌else◌, MatchOption};
 ghost use Rattle.brk_model.specs.Base.{is_withholding_status};
