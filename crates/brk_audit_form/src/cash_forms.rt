@@ -11,7 +11,7 @@ ghost use Rattle.brk_trade_rows.specs.Sheets.{abstract_sheets};
 ghost use Rattle.brk_audit_form.specs.Conditions.{HasSortedKeys};
 ghost use Rattle.brk_audit_form.specs.Names.{security_name_or_empty};
 
-use crate::limits::{is_valid_cents, is_valid_move_id, is_valid_stamp};
+use crate::limits::{is_valid_cash_row_id, is_valid_cents, is_valid_stamp};
 use crate::references::{find_security, find_trade, has_account};
 use brk_money::{Cents, Id, Qty};
 use brk_ref::{CashRow, OldCashRow, Symbol, TradeRow};
@@ -123,7 +123,7 @@ fn is_valid_cash_row(alloc: Global, sheets: &Sheets, row: &CashRow) -> Result<bo
 {
     let is_called = has_valid_text(alloc, sheets, row)?;
     Ok(
-        is_valid_move_id(row.id)
+        is_valid_cash_row_id(row.id)
             && has_account(sheets, row.account)
             && is_called
             && is_valid_stamp(sheets, row.stamp)

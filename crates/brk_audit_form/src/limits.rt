@@ -18,7 +18,7 @@ pub(crate) fn is_valid_id(id: Id) -> bool
     1 <= id.get() && id.get() <= Id::GREATEST
 }
 
-pub(crate) fn is_valid_move_id(id: MoveId) -> bool
+pub(crate) fn is_valid_cash_row_id(id: MoveId) -> bool
     ensures { result ≡ form.is_cash_row_number id }
 {
     1 <= id.get() && id.get() <= MoveId::GREATEST

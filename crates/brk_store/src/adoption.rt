@@ -9,7 +9,7 @@ ghost use Rattle.brk_store.specs.Adopted.{ConnectionPassesDefinitionTest, Connec
 use crate::Store;
 use brk_money::Fault;
 use brk_store_transactions::{audit_and_upgrade_database, audit_database};
-use brk_tables_definitions::with_definitions_tested;
+use brk_tables_definitions::test_definitions;
 use sqlite::{Alter, Connection};
 use std::alloc::Global;
 
@@ -53,7 +53,7 @@ impl<S: Alter> Store<S> {
         ensures tested { ConnectionPassesDefinitionTest S.Store conn → ConnectionTablesWithDeskNamesAreDeskTables S.Store conn }
         ensures assumed { ConnectionTablesWithDeskNamesAreDefined S.Store conn → ConnectionTablesWithDeskNamesAreDeskTables S.Store conn }
     {
-        let (mut conn, has_definitions) = with_definitions_tested(conn);
+        let (mut conn, has_definitions) = test_definitions(conn);
         if !conn.is_autocommit() {
             return Err((conn, Fault::Store));
         }

@@ -14,8 +14,9 @@ use crate::comparing::has_definitions_of_desk;
 use sqlite::{Alter, Connection};
 
 /// Returns the connection, and true if each table of its database with the name of a desk's table
-/// is defined as a desk defines it, in all parts. Reads no row and allocates nothing.
-pub fn with_definitions_tested<S: Alter>(conn: Connection<S>) -> (Connection<S>, bool)
+/// is defined as a desk defines it, in all parts. Reads no row and allocates nothing. Takes the
+/// connection by value, since a proof has the invariant only of a connection that is passed so.
+pub fn test_definitions<S: Alter>(conn: Connection<S>) -> (Connection<S>, bool)
     ensures same { result.0 ≡ conn }
     ensures tested { IsTrue result.1 ↔ ((w : DeskTable) → IsDefinedAsDeskDefines (state S.Store conn).now.schema w) }
     ensures defined { IsTrue result.1 → IsTrue (state S.Store conn).is_open → TablesWithDeskNamesAreDeskTables (state S.Store conn).now }

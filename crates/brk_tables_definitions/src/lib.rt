@@ -8,4 +8,4 @@ mod definition;
 mod desk_tables;
 mod parts;
 
-pub use connection::{tables_of_a_desk_pass_the_test, with_definitions_tested};
+pub use connection::{tables_of_a_desk_pass_the_test, test_definitions};

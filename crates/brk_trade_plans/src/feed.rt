@@ -126,7 +126,7 @@ fn untriggered_requests(
 }
 
 // Returns the quote unchanged if the tick has another symbol.
-fn apply_to_quote(
+fn apply_tick_to_quote(
     alloc: Global,
     stamp: Stamp,
     tick: &Tick,
@@ -159,7 +159,7 @@ fn apply_to_quote(
     Ok(Ok(Quote { last, requests }))
 }
 
-fn apply_to_quotes(
+fn apply_tick_to_quotes(
     alloc: Global,
     stamp: Stamp,
     tick: &Tick,
@@ -181,7 +181,7 @@ fn apply_to_quotes(
 {
     let mut after = Vec::new(alloc);
     for quote in quotes {
-        match apply_to_quote(alloc, stamp, tick, quote, changes, ids)? {
+        match apply_tick_to_quote(alloc, stamp, tick, quote, changes, ids)? {
             Ok(quote) => after.push(quote)?,
             Err(refusal) => return Ok(Err(refusal)),
         }
@@ -222,7 +222,7 @@ fn apply_ticks(
     prove_volumes(&quotes);
     let mut current = quotes;
     for tick in ticks {
-        current = match apply_to_quotes(alloc, stamp, tick, current, changes, ids)? {
+        current = match apply_tick_to_quotes(alloc, stamp, tick, current, changes, ids)? {
             Ok(after) => after,
             Err(refusal) => return Ok(Err(refusal)),
         };

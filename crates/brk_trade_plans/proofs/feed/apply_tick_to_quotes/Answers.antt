@@ -2,7 +2,7 @@ use Rattle.std.proofs.Common.{◌∙◌}
 use Rattle.std.proofs.lemmas.Iterator.Adapters.{YieldsList-from_vec}
 use Rattle.std.proofs.lemmas.Iterator.Consumers.{YieldsList-turn}
 use Rattle.brk_trade_plans.proofs.Volumes.{one_of_all}
-use Rattle.brk_trade_plans.proofs.feed.apply_to_quotes.Goals as goal
+use Rattle.brk_trade_plans.proofs.feed.apply_tick_to_quotes.Goals as goal
 
 pub returns-in-Err-clause-refusal : goal.returns-in-Err-clause-refusal
 returns-in-Err-clause-refusal c =

@@ -1,7 +1,7 @@
 use Rattle.std.proofs.Common.{◌≡◌, ◌++◌, false}
 use Rattle.std.specs.List.{list_any}
 use Rattle.brk_trade_plans.specs.Feed.{states_of_quotes, states_after_tick, row_changes_of_tick, trades_triggered_by_tick, has_volume_above_limit}
-use Rattle.brk_trade_plans.proofs.feed.apply_to_quotes.Given as goal
+use Rattle.brk_trade_plans.proofs.feed.apply_tick_to_quotes.Given as goal
 
 abbrev pub invariant-loop-quote : goal.invariant-loop-quote
 invariant-loop-quote l = record {

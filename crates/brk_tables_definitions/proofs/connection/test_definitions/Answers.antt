@@ -2,7 +2,7 @@ use Rattle.std.proofs.Common.{rules, subst}
 use Rattle.sqlite.specs.Held.{Serves}
 use Rattle.brk_tables_definitions.specs.Definitions.{IsDefinedAsDeskDefines}
 use Rattle.brk_tables_definitions.proofs.Desks.{served_tables_are_desk_tables}
-use Rattle.brk_tables_definitions.proofs.connection.with_definitions_tested.Goals as goal
+use Rattle.brk_tables_definitions.proofs.connection.test_definitions.Goals as goal
 
 pub returns-clause-assumed : goal.returns-clause-assumed
 returns-clause-assumed g c = λ is_open.
