@@ -187,8 +187,8 @@ impl<S: Alter> Desk<S> {
 
     /// Returns the head of an account's statement, which has its figures that are not rows, or `None`
     /// if the account does not exist: the account's name, its opening balance (CA_OPEN), and the
-    /// market value of its holdings at last prices, both in cents. `Store` may also mean that a held symbol has no
-    /// last price or that the sum overflows.
+    /// market value of its holdings at last prices, both in cents. `Store` may also mean that a held
+    /// symbol has no last price or that the sum overflows.
     pub fn head(&mut self, alloc: Global, account: Id) -> Result<Option<Head>, Fault>
         ensures read { ReadPost S.Store self.old self.new result (IsStatementHeadOfAccount account) }
         ensures fault { IfErr result IsCallFault }

@@ -34,7 +34,7 @@ fn is_opening(change: &LotChange, lot: Id) -> bool
     change.trade == lot
 }
 
-// The changes are those of `lot`.
+// All changes are of `lot`.
 fn opening_of_lot(changes: &[LotChange], lot: Id) -> Option<LotChange>
     ensures { option_map abstract_lot_change_row result ≡ find (λ h. h.trade == lot) (map abstract_lot_change_row changes.now) }
 {
