@@ -38,7 +38,11 @@ fn stored_rate<S: Alter>(store: &mut Store<S>, tax: Id) -> Result<Option<TaxRate
     }
 }
 
-fn pays_tax<S: Alter>(store: &mut Store<S>, customer: Id, tax: Id) -> Result<bool, CallFault>
+fn has_customer_tax<S: Alter>(
+    store: &mut Store<S>,
+    customer: Id,
+    tax: Id,
+) -> Result<bool, CallFault>
     ensures { ReadPost S.Store store.old store.new result (λ there t. there ≡ contains_customer_tax t customer tax) }
 {
     Ok(store.customer_tax(customer, tax)?.is_some())
@@ -147,7 +151,7 @@ pub(crate) fn customer_tax_facts<S: Alter>(
 {
     let customer = customer_exists(store, pays.customer)?;
     let rate = stored_rate(store, pays.tax)?;
-    let same_id = pays_tax(store, pays.customer, pays.tax)?;
+    let same_id = has_customer_tax(store, pays.customer, pays.tax)?;
     let rates = checked_tax_rate_sum(alloc, store, pays.customer)?;
     Ok(ReferenceFacts {
         same_id,

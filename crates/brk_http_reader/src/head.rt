@@ -26,6 +26,7 @@ pub struct HeadFacts {
     pub len: Result<usize, RequestProblem>,
 }
 
+// A function of its own, since the proof of `parse_head` cites its clause.
 fn is_either_true(a: bool, b: bool) -> bool
     ensures { result ≡ (a || b) }
 {

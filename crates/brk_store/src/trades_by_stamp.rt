@@ -58,6 +58,6 @@ impl<S: Alter> Store<S> {
             ≡ take 1 (trade_rows_oldest_first (filter (λ r. nat_le first r.stamp) (trade_rows_of_account t account)))) }
     {
         let mut tx = begin_transaction(&mut self.conn);
-        brk_tables_views::first_trade_since(&mut tx, account, first)
+        brk_tables_views::first_trade_of_account_since(&mut tx, account, first)
     }
 }

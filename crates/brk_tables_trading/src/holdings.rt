@@ -126,6 +126,7 @@ pub fn account_summaries<S: Alter>(
     decode_rows(alloc, &rows)
 }
 
+/// Returns the number of shares of a security that an account holds, below 0 if sold short.
 pub fn position_summary<S: Alter>(
     tx: &mut Transaction<'_, S>,
     account: Id,

@@ -32,6 +32,8 @@ pub use holdings::completed_trade_ids;
 pub use lot_changes::{lot_changes_by_trade, lot_changes_of_lot};
 pub use lot_walk::walk_lots;
 pub use trade_walk::walk_completed_trades;
-pub use trades_by_stamp::{first_trade_since, twenty_trades_of_account, twenty_trades_of_symbol};
+pub use trades_by_stamp::{
+    first_trade_of_account_since, twenty_trades_of_account, twenty_trades_of_symbol,
+};
 pub use visitor::Visitor;
 pub use walking::{WalkError, walk_query_rows};

@@ -69,7 +69,7 @@ pub fn twenty_trades_of_symbol<S: Alter>(
 
 /// Returns the first of the trades of an account with a stamp of at least `first`, or `None` if
 /// there is none.
-pub fn first_trade_since<S: Alter>(
+pub fn first_trade_of_account_since<S: Alter>(
     tx: &mut Transaction<'_, S>,
     account: Id,
     first: Stamp,

@@ -1,5 +1,5 @@
-//! Theorems: a command that a base accepts changes only its own rows of the tables and the last
-//! stamp, if the base satisfies the books invariant.
+//! Theorems: the tables of the empty base have no rows; and a command that a base accepts changes
+//! only its own rows of the tables and the last stamp, if the base satisfies the books invariant.
 
 ghost use Rattle.std.specs.Prelude.{◌≡◌, ℕ, List, None, Some, not};
 ghost use Rattle.std.specs.List.{AllByRecursion};

@@ -28,10 +28,10 @@ returns g c =
     (λ there (t : Tables). there ≡ has_customer t pays.customer) (λ rate (t : Tables). rate ≡ rate_of_tax_rate_with_id t pays.tax) (λ _ t. customer_read t × rate_read t) (λ t a b. (a, b))
     c.in_ok-customer.ensures c.in_ok-rate.ensures in
     let two =
-    read_with g.S.Store old c.stored_rate.new.store c.pays_tax.new.store {X = Unit {0}} {H = CallFault} tt same_id tt
+    read_with g.S.Store old c.stored_rate.new.store c.has_customer_tax.new.store {X = Unit {0}} {H = CallFault} tt same_id tt
     (λ _ t. customer_read t × rate_read t) (λ there (t : Tables). there ≡ contains_customer_tax t pays.customer pays.tax) (λ _ t. (customer_read t × rate_read t) × id_read t) (λ t a b. (a, b))
     one c.in_ok-same_id.ensures in
-    read_with g.S.Store old c.pays_tax.new.store c.checked_tax_rate_sum.new.store {H = CallFault} tt rates _
+    read_with g.S.Store old c.has_customer_tax.new.store c.checked_tax_rate_sum.new.store {H = CallFault} tt rates _
     (λ _ t. (customer_read t × rate_read t) × id_read t) (λ rates (t : Tables). SomeIff rates (customer_tax_rate_sum t pays.customer ≤ greatest_tax_rate) (customer_tax_rate_sum t pays.customer))
     (λ (found : ReferenceFacts) (t : Tables). CustomerTaxFactsMatchTables t pays.customer pays.tax found)
     (λ t k s. record { customer_there = k.0.0; rate_there = k.0.1; same_id = k.1; sum = s })
@@ -48,7 +48,7 @@ pub returns-in_err-same_id : goal.returns-in_err-same_id
 returns-in_err-same_id g c =
     let old = c.args.store.now in
     let p = err_from_is_err_and c.from_residual-in_err-same_id.result c.from_residual-in_err-same_id.ensures.1 in
-    rw p.1 (failed_after g.S.Store old c.stored_rate.new.store c.pays_tax.new.store _ p.0 _ _
+    rw p.1 (failed_after g.S.Store old c.stored_rate.new.store c.has_customer_tax.new.store _ p.0 _ _
     (unchanged_after g.S.Store old c.customer_exists.new.store c.stored_rate.new.store _ _
     (single_read_changes_nothing old c.customer_exists.new.store _ _ c.in_ok-customer.ensures) c.in_ok-rate.ensures)
     c.in_err-same_id.ensures)
@@ -57,8 +57,8 @@ pub returns-in_err-rates : goal.returns-in_err-rates
 returns-in_err-rates g c =
     let old = c.args.store.now in
     let p = err_from_is_err_and c.from_residual-in_err-rates.result c.from_residual-in_err-rates.ensures.1 in
-    rw p.1 (failed_after g.S.Store old c.pays_tax.new.store c.checked_tax_rate_sum.new.store _ p.0 _ _
-    (unchanged_after g.S.Store old c.stored_rate.new.store c.pays_tax.new.store _ _
+    rw p.1 (failed_after g.S.Store old c.has_customer_tax.new.store c.checked_tax_rate_sum.new.store _ p.0 _ _
+    (unchanged_after g.S.Store old c.stored_rate.new.store c.has_customer_tax.new.store _ _
     (unchanged_after g.S.Store old c.customer_exists.new.store c.stored_rate.new.store _ _
     (single_read_changes_nothing old c.customer_exists.new.store _ _ c.in_ok-customer.ensures) c.in_ok-rate.ensures) c.in_ok-same_id.ensures)
     c.in_err-rates.ensures)

@@ -5,7 +5,7 @@ use Rattle.brk_ref.specs.Records.{abstract_customer_tax}
 use Rattle.brk_trade_books.specs.Reads.{contains_customer_tax}
 use Rattle.brk_trade_books.proofs.Reading.{is_there}
 use Rattle.brk_store.proofs.Retelling.{retold}
-use Rattle.brk_desk_decisions.proofs.terms.pays_tax.Goals as goal
+use Rattle.brk_desk_decisions.proofs.terms.has_customer_tax.Goals as goal
 
 pub returns : goal.returns
 returns g c =

@@ -12,7 +12,7 @@ use Rattle.brk_tables_views.proofs.MomentReads.{tells_first_since}
 use Rattle.brk_tables_schema.proofs.TradingBack.{trade_back, trade_is_back}
 use Rattle.brk_tables_views.proofs.FirstSince
 use Rattle.brk_tables_views.proofs.FirstSince.{plain}
-use Rattle.brk_tables_views.proofs.trades_by_stamp.first_trade_since.Goals as goal
+use Rattle.brk_tables_views.proofs.trades_by_stamp.first_trade_of_account_since.Goals as goal
 
 pub select_rows-requires : goal.select_rows-requires
 select_rows-requires g c = record { no_returning_clause = plain }
