@@ -11,20 +11,18 @@ use Rattle.brk_money.specs.declared.fault.Fault.{Fault}
 use Rattle.brk_money.specs.declared.fault.Fault.TheVariants.{Memory, Store, Damaged}
 use Rattle.brk_model.specs.Adopted.{base_of_tables}
 use Rattle.brk_model.specs.Base.{Base}
-use Rattle.brk_model.specs.Schemas.{third_schema}
 use Rattle.brk_model.specs.Sheets.{sheets}
 use Rattle.brk_model.specs.Tables.{Tables}
 use Rattle.brk_trade_rows.specs.Schemas.{abstract_schema}
 use Rattle.brk_trade_rows.specs.declared.schema.Schema as known
-use Rattle.brk_trade_rows.specs.declared.schema.Schema.TheVariants.{Third}
 use Rattle.brk_store_transactions.specs.Audited.{StoresRowsWithAuditResult, IsDatabaseAuditResult, AdoptPost, ConnectionTablesWithDeskNamesAreDeskTables, AuditAnswerSatisfies, IsConsistent}
 use Rattle.brk_store_transactions.specs.Holds.{IsDiskContentOfRows}
 use Rattle.brk_store_transactions.proofs.Defined.{defined_whole}
-use Rattle.brk_store_transactions.proofs.States.{clean_before, content_of_third_rows, same_audited_rows, same_database, third_schema_there, upgraded_rows_there}
+use Rattle.brk_store_transactions.proofs.States.{clean_before, same_audited_rows, same_database, upgraded_rows_there}
 use Rattle.brk_store_transactions.proofs.Taking.{one_answer}
 use Rattle.brk_desk.specs.Reopening.{RepresentsAuditedRowsDurably, IsNewConnectionToDiskContent, AdoptsBaseWithoutDamage, IsNewConnectionAfterCrash, FindsBaseWithoutDamage, RepresentsDurableBase}
 use Rattle.brk_desk.proofs.UpgradedRows.{are_upgraded}
-use Rattle.brk_desk.proofs.Reopened.{RecoversOnlyLastCommit, audited_stands, leaves_alone, taken_over}
+use Rattle.brk_desk.proofs.Reopened.{RecoversOnlyLastCommit, leaves_alone, taken_over}
 
 -- the books of rows that passed can be kept
 rows_can_be : (schema : known.Schema) (rows : Tables) (db : Database) → StoresRowsWithAuditResult (abstract_schema schema) rows db None → IsConsistent (base_of_tables rows)
@@ -45,17 +43,10 @@ module _ {S : Type 0} (g : Ghosts S) (settled : RecoversOnlyLastCommit g) where
     before : HasCleanDisk (state g conn)
     before = clean_before (state g conn) (state g store) _ (adopted.survives defined) clean
 
-    -- of a desk of the third schema
-    third_stands : (rows : Tables) → StoresRowsWithAuditResult third_schema rows (state g conn).now None → RepresentsDurableBase g store (base_of_tables rows)
-    third_stands rows a =
-        audited_stands g settled trees conn store (Ok tt) opened (adopted.audited defined (third_schema_there g conn rows a)) clean (base_of_tables rows)
-        (rows_can_be Third rows (state g conn).now a)
-        (content_of_third_rows rows (sheets (base_of_tables rows)) (state g conn).now trees a (are_upgraded Third rows a.2 a.1).tables (opened.connected.same before))
-
-    -- of rows that were upgraded, which are committed
-    moved_stands : (schema : known.Schema) (rows : Tables) → StoresRowsWithAuditResult (abstract_schema schema) rows (state g conn).now None
+    -- the rows are there, and committed
+    stands : (schema : known.Schema) (rows : Tables) → StoresRowsWithAuditResult (abstract_schema schema) rows (state g conn).now None
         → IsTrue (state g store).is_open → RepresentsDurableBase g store (base_of_tables rows)
-    moved_stands schema rows a on =
+    stands schema rows a on =
         let m = adopted.upgraded clean on defined in
         let there = upgraded_rows_there schema rows (state g conn).now (state g store).now a m.0 in
         let can = rows_can_be schema rows (state g conn).now a in
@@ -65,13 +56,7 @@ module _ {S : Type 0} (g : Ghosts S) (settled : RecoversOnlyLastCommit g) where
         }
 
     pub adopted_stands : (schema : known.Schema) (rows : Tables) → StoresRowsWithAuditResult (abstract_schema schema) rows (state g conn).now None → RepresentsDurableBase g store (base_of_tables rows)
-    adopted_stands schema rows a = elim (adopted.open_after_upgrade clean defined) [
-      | inl third ↦
-          let told = (adopted.audited defined third).answered clean (λ c on. defined c on Third) in
-          let same : told.0 ≡ rows = same_audited_rows Third schema told.0 rows (state g conn).now told.1 a in
-          subst (λ (t : Tables). RepresentsDurableBase g store (base_of_tables t)) same (third_stands told.0 told.1)
-      | inr on ↦ moved_stands schema rows a on
-    ]
+    adopted_stands schema rows a = stands schema rows a (adopted.open_after_adoption clean)
 
     pub takes_over : RepresentsAuditedRowsDurably g conn store
     takes_over = let told = adopted.answered clean defined in (told.0, told.1.0, told.1.1, adopted_stands told.0 told.1.0 told.1.1)

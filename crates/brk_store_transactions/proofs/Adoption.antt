@@ -8,14 +8,15 @@ use Rattle.sqlite_trees.specs.View.{doubt}
 use Rattle.sqlite_trees.specs.declared.store.Store.{Ghosts}
 use Rattle.sqlite.specs.Effect.{Database}
 use Rattle.sqlite.specs.Held.{Held, state}
-use Rattle.sqlite.specs.State.{State, HasCleanDisk, Survives, IsRolledBack, Shows, KeepsCounts}
+use Rattle.sqlite.specs.State.{State, HasCleanDisk, Survives, IsRolledBack, IsUnchanged, Shows, KeepsCounts}
 use Rattle.sqlite.specs.Steps.{FailsToCommit}
 use Rattle.sqlite.specs.declared.error.Error.{Error}
-use Rattle.sqlite.proofs.StateLemmas.{survives_weaker}
+use Rattle.sqlite.proofs.StateLemmas.{survives_then, survives_weaker}
 use Rattle.brk_money.specs.declared.fault.Condition.{Condition}
 use Rattle.brk_money.specs.declared.fault.Condition.TheVariants as condition
 use Rattle.brk_money.specs.Kinds.{fault_of_call}
 use Rattle.brk_money.specs.declared.fault.CallFault.{CallFault}
+use Rattle.brk_money.specs.declared.fault.CallFault.TheVariants as call
 use Rattle.brk_money.specs.declared.fault.Fault.{Fault}
 use Rattle.brk_money.specs.declared.fault.Fault.TheVariants.{Store, Damaged}
 use Rattle.brk_model.specs.Adopted.{base_of_tables}
@@ -53,6 +54,33 @@ use Rattle.brk_store_transactions.proofs.Ending.{all, with_transaction_open, kep
 use Rattle.brk_store_transactions.proofs.Schemas.{one_desk, older_has_none, third_has_rule, third_rows, two_desks}
 use Rattle.brk_store_transactions.proofs.Telling.{ReturnsTrueAuditResult}
 use Rattle.brk_store_transactions.proofs.Texts.{upgraded_texts}
+
+-- ---- a call after a transaction was rolled back, which changes nothing or rolls back once more
+
+back_at_end : (a b c : State) → IsRolledBack a b → IsUnchanged b c ⊎ IsRolledBack b c → IsRolledBack a c
+back_at_end a b c back (inl same) = record {
+  was_open = λ on. back.was_open same.0.was_open;
+  undone = λ on. let u = back.undone same.0.was_open in (same.0.now_is ∙ u.0, same.0.committed_is ∙ u.1);
+  autocommit = same.0.mode ∙ back.autocommit;
+  unmarked = same.2 ∙ back.unmarked;
+  counts = record { changes = same.1.changes ∙ back.counts.changes; last_rowid = same.1.last_rowid ∙ back.counts.last_rowid };
+}
+back_at_end a b c back (inr again) = record {
+  was_open = λ on. back.was_open (again.was_open on);
+  undone = λ on. let u = back.undone (again.was_open on) in let v = again.undone on in (v.0 ∙ u.1, v.1 ∙ u.1);
+  autocommit = again.autocommit;
+  unmarked = again.unmarked;
+  counts = record { changes = again.counts.changes ∙ back.counts.changes; last_rowid = again.counts.last_rowid ∙ back.counts.last_rowid };
+}
+
+module _ {S : Type 0} (g : Ghosts S) (first mid end : Held S) (late : Survives (state g first) (state g mid) (λ _. ⊥)) (later : Survives (state g mid) (state g end) (λ _. ⊥)) where
+  pub late_at_end : Survives (state g first) (state g end) (λ _. ⊥)
+  late_at_end = survives_then (state g first) (state g mid) (state g end) (λ _. ⊥) (λ _. ⊥) (λ _. ⊥) (λ _ db none. none) (λ _ db none. none) late later
+
+  pub rolled_back_at_end : (HasCleanDisk (state g mid) → IsRolledBack (state g first) (state g mid))
+      → (HasCleanDisk (state g end) → IsUnchanged (state g mid) (state g end) ⊎ IsRolledBack (state g mid) (state g end))
+      → HasCleanDisk (state g end) → IsRolledBack (state g first) (state g end)
+  rolled_back_at_end back then_same clean = back_at_end (state g first) (state g mid) (state g end) (back (clean_before (state g mid) (state g end) (λ _. ⊥) later clean)) (then_same clean)
 
 -- ---- the rows that a move leaves
 
@@ -170,7 +198,7 @@ module _ {S : Type 0} (g : Ghosts S) (old first : Held S) (settled : IsTrue (sta
       was_open = opened;
       adopted = λ defined. tt;
       upgraded = λ clean on defined. tt;
-      open_after_upgrade = λ clean defined. tt;
+      open_after_adoption = λ clean. tt;
       unchanged_if_open = stayed;
       survives = crashes (Err fault) told opened;
       audited = as_audit (Err fault) told opened;
@@ -199,15 +227,15 @@ module _ {S : Type 0} (g : Ghosts S) (old first : Held S) (settled : IsTrue (sta
         none_adopted first end (Ok told) ReturnsTrueAuditResult step late back (Damaged failing) (told_at end (Fails failing) is late) (λ clean. (looked end late clean).0)
 
     -- a desk of the third schema passes, and is left as it is
-    pub passes : (end : Held S) (schema : known.Schema) → told ≡ Succeeds schema → (abstract_schema schema).has_settle_rule_table ≡ true
+    passes : (end : Held S) (schema : known.Schema) → told ≡ Succeeds schema → (abstract_schema schema).has_settle_rule_table ≡ true
         → Survives (state g first) (state g end) (λ _. ⊥) → (HasCleanDisk (state g end) → IsRolledBack (state g first) (state g end))
-        → AdoptPost g old end (Ok tt)
-    passes end schema is rule late back = record {
+        → (HasCleanDisk (state g end) → IsTrue (state g end).is_open) → AdoptPost g old end (Ok tt)
+    passes end schema is rule late back opened = record {
       answered = now_told;
       was_open = was_open;
       adopted = λ defined. rows_held g end (state g old).now (λ clean on. there clean on defined);
       upgraded = λ clean on defined. let k = same_at clean on in (there clean on defined, k.committed ∙ sym (settled k.was_open) ∙ sym k.now);
-      open_after_upgrade = λ clean defined. let p = told_at end (Succeeds Third) third late clean defined in inl (λ _ _. desk_is_there third_schema p.0 (state g old).now p.1.0);
+      open_after_adoption = opened;
       unchanged_if_open = λ clean on. tt;
       survives = crashes first end (Ok told) ReturnsTrueAuditResult step late back (Ok tt) now_told was_open;
       audited = as_audit first end (Ok told) ReturnsTrueAuditResult step late back (Ok tt) now_told was_open;
@@ -236,6 +264,22 @@ module _ {S : Type 0} (g : Ghosts S) (old first : Held S) (settled : IsTrue (sta
               subst (λ u. HasDeskTables u (state g end).now) (as_tables Third p.0 p.1.2) rows,
               strangers_stay (IsTableOfSchema third_schema) p.1.0.0 (state g old).now (state g end).now (same_at clean on).now,
             )
+
+    -- then a test that the database is open
+    module _ (mid end : Held S) (late : Survives (state g first) (state g mid) (λ _. ⊥)) (back : HasCleanDisk (state g mid) → IsRolledBack (state g first) (state g mid))
+        (same : HasCleanDisk (state g end) → IsUnchanged (state g mid) (state g end) ⊎ IsRolledBack (state g mid) (state g end)) (later : Survives (state g mid) (state g end) (λ _. ⊥)) where
+      late_end : Survives (state g first) (state g end) (λ _. ⊥)
+      late_end = late_at_end g first mid end late later
+
+      back_end : HasCleanDisk (state g end) → IsRolledBack (state g first) (state g end)
+      back_end = rolled_back_at_end g first mid end late later back same
+
+      pub passes_open : (schema : known.Schema) → told ≡ Succeeds schema → (abstract_schema schema).has_settle_rule_table ≡ true
+          → (HasCleanDisk (state g end) → IsTrue (state g end).is_open) → AdoptPost g old end (Ok tt)
+      passes_open schema is rule opened = passes end schema is rule late_end back_end opened
+
+      pub found_closed : AdoptPost g old end (Err Store)
+      found_closed = gave_up first end (Ok told) ReturnsTrueAuditResult step late_end back_end call.Store
 
     module _ (schema : known.Schema) (is : told ≡ Succeeds schema) (older : (abstract_schema schema).has_settle_rule_table ≡ false) (mid : Held S) where
       -- the move gave up
@@ -306,7 +350,7 @@ module _ {S : Type 0} (g : Ghosts S) (old first : Held S) (settled : IsTrue (sta
           was_open = was_open;
           adopted = λ defined. rows_held g end (state g old).now (λ clean on. there clean defined);
           upgraded = λ clean on defined. (there clean defined, (ends clean).3);
-          open_after_upgrade = λ clean defined. inr (ends clean).1;
+          open_after_adoption = λ clean. (ends clean).1;
           unchanged_if_open = λ clean on. tt;
           survives = left;
           audited = nothing (Ok tt) was_open;
@@ -325,7 +369,7 @@ module _ {S : Type 0} (g : Ghosts S) (old first : Held S) (settled : IsTrue (sta
           was_open = λ clean. tt;
           adopted = λ defined. tt;
           upgraded = λ clean on defined. tt;
-          open_after_upgrade = λ clean defined. tt;
+          open_after_adoption = λ clean. tt;
           unchanged_if_open = kept_at g old mid end settled (HasPassingRowsAndUpgrades schema) made late e fails;
           survives = left;
           audited = nothing (Err Store) (λ clean. tt);

@@ -1,6 +1,7 @@
 pub mod Adoption
 pub mod Answering
 pub mod Closing
+mod Compiling
 pub mod Defined
 pub mod Ending
 pub mod Found

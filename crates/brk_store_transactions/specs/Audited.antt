@@ -142,9 +142,8 @@ pub record AdoptPost {S : Type 0} (g : Ghosts S) (old new : Held S) (result : Re
   -- tables of the base that they determine, next to its others (`UpgradesAuditedRows`), committed.
   pub upgraded : HasCleanDisk (state g new) → IsTrue (state g new).is_open → ConnectionTablesWithDeskNamesAreDeskTables g old
       → OnOk result (UpgradesAuditedRows (state g old).now (state g new).now × ((state g new).committed ≡ (state g new).now))
-  -- After an upgrade the store is open; at schema 3, as for a read (`ReadPost`), it need not be.
-  pub open_after_upgrade : HasCleanDisk (state g new) → ConnectionTablesWithDeskNamesAreDeskTables g old
-      → OnOk result (ConnectionHasThirdSchema g old ⊎ IsTrue (state g new).is_open)
+  -- At `Ok` the store is open.
+  pub open_after_adoption : HasCleanDisk (state g new) → OnOk result (IsTrue (state g new).is_open)
   -- At an error: if the database is open after the call, it was open before and is unchanged.
   pub unchanged_if_open : HasCleanDisk (state g new) → IsTrue (state g new).is_open → OnErr result (WasOpenAndIsUnchanged (state g old) (state g new))
   -- A crash exposes a prior crash state or, if an older schema's rows pass, the upgraded tables.

@@ -7,6 +7,7 @@ mod auditing;
 mod beginning;
 mod changing;
 mod examining;
+mod openness;
 pub mod reopening;
 mod upgrading;
 

@@ -7,6 +7,7 @@ ghost use Rattle.brk_store_transactions.specs.Audited.{AdoptPost};
 
 use crate::beginning::begin_transaction;
 use crate::examining::{AuditResult, audit_by_database_schema};
+use crate::openness::require_open;
 use brk_money::Fault;
 use brk_tables::upgrade_tables;
 use sqlite::{Alter, Connection};
@@ -16,8 +17,9 @@ use std::alloc::Global;
 /// older than 3, upgrades the tables in the same transaction and commits it.
 ///
 /// Fails with `Damaged` and the first condition that fails, or with `Memory` or `Store`; a database
-/// that is still open is then unchanged. A crash after an upgrade exposes the upgraded tables. The
-/// result is specified only if the database satisfies `ConnectionTablesWithDeskNamesAreDeskTables`.
+/// that is still open is then unchanged. After `Ok` the database is open. A crash after an upgrade
+/// exposes the upgraded tables. The result is specified only if the database satisfies
+/// `ConnectionTablesWithDeskNamesAreDeskTables`.
 pub fn audit_and_upgrade_database<S: Alter>(
     conn: &mut Connection<S>,
     alloc: Global,
@@ -27,18 +29,21 @@ pub fn audit_and_upgrade_database<S: Alter>(
     ensures adopted { AdoptPost S.Store conn.old conn.new result }
     ensures condition { IfErr result (λ f. f ≢ fault.Damaged NotEmpty) }
 {
-    let mut tx = begin_transaction(conn);
-    let schema = match audit_by_database_schema(&mut tx, alloc)? {
-        AuditResult::Fails(condition) => return Err(Fault::Damaged(condition)),
-        AuditResult::Passes(schema) => schema,
-    };
+    {
+        let mut tx = begin_transaction(conn);
+        let schema = match audit_by_database_schema(&mut tx, alloc)? {
+            AuditResult::Fails(condition) => return Err(Fault::Damaged(condition)),
+            AuditResult::Passes(schema) => schema,
+        };
+        if !schema.has_settle_rule_table() {
+            upgrade_tables(&mut tx, alloc, schema)?;
+            return match tx.commit() {
+                Ok(()) => Ok(()),
+                Err(_) => Err(Fault::Store),
+            };
+        }
+    }
     // A database of schema 3 needs no upgrade.
-    if schema.has_settle_rule_table() {
-        return Ok(());
-    }
-    upgrade_tables(&mut tx, alloc, schema)?;
-    match tx.commit() {
-        Ok(()) => Ok(()),
-        Err(_) => Err(Fault::Store),
-    }
+    require_open(conn)?;
+    Ok(())
 }

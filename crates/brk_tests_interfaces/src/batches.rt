@@ -498,3 +498,16 @@ pub fn input_beyond_the_limit_is_not_read(alloc: Global) -> Result<(), Fail> {
     };
     expect_batch_result(alloc, whole, batch_counts(1, 0, 0), b"1,ok,7\nend,1,0,0\n")
 }
+
+/// Checks that the batch `WHOLE` completes over a reader that fails at the first byte after the line
+/// of the end record: nothing is read there. Fails if not, and if memory runs out.
+pub fn input_after_the_end_record_is_not_read(alloc: Global) -> Result<(), Fail> {
+    let after = b"put,2,c\n".len();
+    let reader = Flaky {
+        text: WHOLE,
+        at: 0,
+        cut: WHOLE.len().saturating_sub(after),
+        kind: io::ErrorKind::Other,
+    };
+    expect_batch_result(alloc, reader, batch_counts(1, 1, 3), LINES)
+}

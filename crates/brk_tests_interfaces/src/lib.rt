@@ -28,6 +28,9 @@ pub fn run_test(rt: &HostRuntime, name: &str) -> Option<Result<(), Fail>> {
         "a_failed_write_ends_the_batch" => batches::a_failed_write_ends_the_batch(alloc),
         "a_fault_of_the_desk_ends_the_batch" => batches::a_fault_of_the_desk_ends_the_batch(alloc),
         "input_beyond_the_limit_is_not_read" => batches::input_beyond_the_limit_is_not_read(alloc),
+        "input_after_the_end_record_is_not_read" => batches::input_after_the_end_record_is_not_read(
+            alloc,
+        ),
         "a_fixed_clock_returns_its_timestamp" => clock::a_fixed_clock_returns_its_timestamp(rt),
         "clock_readings_are_whole_milliseconds" => clock::clock_readings_are_whole_milliseconds(),
         "late_clock_readings_are_the_greatest_stamp" =>
