@@ -1,7 +1,14 @@
-//! The arguments of `brk`: their definitions, and the job that they request. No clause says which
-//! job is read; brk_tests_interfaces tests it. The functions `.._job` read the arguments by the
-//! names that `.._command` and `.._arg` give them. `tools/generate/help_pages` reads this file as
-//! source, and writes the man page and the completions from it: run it after a change.
+//! The arguments of `brk`: their definitions, and the job that they request. The functions `.._job`
+//! read the arguments by the names that `.._command` and `.._arg` give them, and their clauses say
+//! which argument comes into which field. No clause says which words the parser gives to which
+//! argument; brk_tests_interfaces tests it. `tools/generate/help_pages` reads this file as source,
+//! and writes the man page and the completions from it: run it after a change.
+
+ghost use Rattle.std.specs.Prelude.{◌≡◌, IfOk, codes, map, option_map, string_bytes};
+ghost use Rattle.clap.specs.Matches.{first_value, found_of};
+ghost use Rattle.brk_money.specs.Spelling.{day_text};
+ghost use Rattle.brk_cli_args.specs.Arguments.{IsNumberOf, IsNumberOr, IsOptionalStampOf, text_of_argument, texts_of_argument};
+ghost use Rattle.brk_cli_args.specs.Requested.{IsRequestedJob};
 
 use crate::job::Job;
 use crate::notes;
@@ -193,51 +200,78 @@ fn whole_command<'a>(alloc: Global) -> Result<Command<'a>, AllocError> {
 }
 
 // Returns a copy of the argument's text, empty if the argument is missing.
-fn argument_text(
-    alloc: Global,
-    matches: &ArgMatches<'_>,
-    name: &str,
-) -> Result<String, AllocError> {
+fn argument_text(alloc: Global, matches: &ArgMatches<'_>, name: &str) -> Result<String, AllocError>
+    ensures { IfOk result (λ text. string_bytes text ≡ text_of_argument (found_of matches.now) name.now) }
+{
     String::from_str(alloc, matches.get_str(name).unwrap_or(""))
 }
 
-fn db_path(alloc: Global, matches: &ArgMatches<'_>) -> Result<Option<String>, AllocError> {
+fn db_path(alloc: Global, matches: &ArgMatches<'_>) -> Result<Option<String>, AllocError>
+    ensures { IfOk result (λ path. option_map string_bytes path ≡ first_value (found_of matches.now) (codes "db")) }
+{
     match matches.get_str("db") {
         Some(path) => Ok(Some(String::from_str(alloc, path)?)),
         None => Ok(None),
     }
 }
 
-fn at_timestamp(matches: &ArgMatches<'_>) -> Option<Stamp> {
-    matches.get_one::<i64>("at").and_then(Stamp::new)
+fn at_timestamp(matches: &ArgMatches<'_>) -> Option<Stamp>
+    ensures { IsOptionalStampOf (found_of matches.now) (codes "at") result }
+{
+    Stamp::new(matches.get_one("at")?)
 }
 
 // The parser requires both days; without one the fault is `Day`.
-fn parse_day_arg(matches: &ArgMatches<'_>, name: &str) -> Result<Day, UsageFault> {
+fn parse_day_arg(matches: &ArgMatches<'_>, name: &str) -> Result<Day, UsageFault>
+    ensures { IfOk result (λ day. text_of_argument (found_of matches.now) name.now ≡ day_text day) }
+{
     let text = matches.get_str(name).unwrap_or("");
     parse_day(text.as_bytes()).ok_or(UsageFault::Day)
 }
 
 // The parser requires the account; without it the fault has an empty text.
-fn statement_job(alloc: Global, matches: &ArgMatches<'_>) -> Result<Job, UsageFault> {
-    let Some(account) = matches.get_one::<u64>("account").and_then(Id::new) else {
-        return Err(UsageFault::Words(String::new(alloc)));
-    };
+fn account_id(alloc: Global, matches: &ArgMatches<'_>) -> Result<Id, UsageFault>
+    ensures { IfOk result (IsNumberOf (found_of matches.now) (codes "account")) }
+{
+    match matches.get_one::<u64>("account").and_then(Id::new) {
+        Some(account) => Ok(account),
+        None => Err(UsageFault::Words(String::new(alloc))),
+    }
+}
+
+fn statement_job(alloc: Global, matches: &ArgMatches<'_>) -> Result<Job, UsageFault>
+    ensures { IfOk result (IsRequestedJob (codes "statement") (found_of matches.now)) }
+{
     Ok(Job::Statement {
         db: argument_text(alloc, matches, "db")?,
-        account,
+        account: account_id(alloc, matches)?,
         from: parse_day_arg(matches, "from")?,
         to: parse_day_arg(matches, "to")?,
     })
 }
 
-// The parser requires the port and has a default for the streams: 0 and 1 only stand in for them.
-fn serve_job(alloc: Global, matches: &ArgMatches<'_>) -> Result<Job, UsageFault> {
+// The parser requires the port; 0 only stands in for it.
+fn port_number(matches: &ArgMatches<'_>) -> u16
+    ensures { IsNumberOr 16 0 (found_of matches.now) (codes "port") result }
+{
+    matches.get_one("port").unwrap_or(0)
+}
+
+// The parser has a default for the streams; 1 only stands in for them.
+fn stream_count(matches: &ArgMatches<'_>) -> u32
+    ensures { IsNumberOr 32 1 (found_of matches.now) (codes "streams") result }
+{
+    matches.get_one("streams").unwrap_or(1)
+}
+
+fn serve_job(alloc: Global, matches: &ArgMatches<'_>) -> Result<Job, UsageFault>
+    ensures { IfOk result (IsRequestedJob (codes "serve") (found_of matches.now)) }
+{
     Ok(Job::Serve {
-        port: matches.get_one("port").unwrap_or(0),
+        port: port_number(matches),
         db: db_path(alloc, matches)?,
         at: at_timestamp(matches),
-        streams: matches.get_one("streams").unwrap_or(1),
+        streams: stream_count(matches),
     })
 }
 
@@ -246,7 +280,9 @@ fn argument_texts(
     alloc: Global,
     matches: &ArgMatches<'_>,
     name: &str,
-) -> Result<Vec<String>, AllocError> {
+) -> Result<Vec<String>, AllocError>
+    ensures { IfOk result (λ texts. map string_bytes texts.items ≡ texts_of_argument (found_of matches.now) name.now) }
+{
     let mut texts = Vec::new(alloc);
     for text in matches.get_strs(name).unwrap_or(&[]) {
         texts.push(String::from_str(alloc, text)?)?;
@@ -254,7 +290,9 @@ fn argument_texts(
     Ok(texts)
 }
 
-fn ask_job(alloc: Global, matches: &ArgMatches<'_>) -> Result<Job, UsageFault> {
+fn ask_job(alloc: Global, matches: &ArgMatches<'_>) -> Result<Job, UsageFault>
+    ensures { IfOk result (IsRequestedJob (codes "ask") (found_of matches.now)) }
+{
     Ok(Job::Ask {
         db: argument_text(alloc, matches, "db")?,
         json: matches.get_flag("json"),
@@ -264,7 +302,9 @@ fn ask_job(alloc: Global, matches: &ArgMatches<'_>) -> Result<Job, UsageFault> {
     })
 }
 
-fn explain_job(alloc: Global, matches: &ArgMatches<'_>) -> Result<Job, UsageFault> {
+fn explain_job(alloc: Global, matches: &ArgMatches<'_>) -> Result<Job, UsageFault>
+    ensures { IfOk result (IsRequestedJob (codes "explain") (found_of matches.now)) }
+{
     Ok(Job::Explain {
         db: argument_text(alloc, matches, "db")?,
         words: argument_texts(alloc, matches, "words")?,
@@ -272,7 +312,9 @@ fn explain_job(alloc: Global, matches: &ArgMatches<'_>) -> Result<Job, UsageFaul
 }
 
 // Any name but those of the other five subcommands is a batch; the parser accepts no other name.
-fn subcommand_job(alloc: Global, name: &str, matches: &ArgMatches<'_>) -> Result<Job, UsageFault> {
+fn subcommand_job(alloc: Global, name: &str, matches: &ArgMatches<'_>) -> Result<Job, UsageFault>
+    ensures { IfOk result (IsRequestedJob name.now (found_of matches.now)) }
+{
     if name == "statement" {
         return statement_job(alloc, matches);
     }

@@ -137,7 +137,7 @@ fn expect_parsed_command_line(alloc: Global, line: &str, wanted: &[&str]) -> Res
 }
 
 // Command lines, each with the text of the job that it requests, or with `day`.
-const JOBS: [(&str, &str); 17] = [
+const JOBS: [(&str, &str); 18] = [
     ("brk|batch", "batch - -1"),
     ("brk|batch|--db|a b.db", "batch a b.db -1"),
     ("brk|batch|--at|0", "batch - 0"),
@@ -160,6 +160,10 @@ const JOBS: [(&str, &str); 17] = [
     (
         "brk|ask|--json|--db|a.db|--|symboltrades|-X|0|1",
         "ask a.db true false symboltrades -X 0 1",
+    ),
+    (
+        "brk|ask|--heads|--json|--db|a.db|recent|100",
+        "ask a.db true true recent 100",
     ),
     (
         "brk|ask|--db|a.db|submitted",
