@@ -1,12 +1,11 @@
-//! Reads of brokers by name, and of a broker's accounts; the broker with an id is read in
-//! `reading`, its totals in `numbers`. Each read begins a transaction and ends it without a commit
-//! (no clause states this). A read fails with `Store` also if a row is malformed or if the `sqlite`
-//! crate runs out of memory. A crash after a read exposes only states that a crash before it could
-//! expose.
+//! Reads of brokers by name, and of the ids of accounts, of a broker's and of all; the broker with an
+//! id is read in `reading`, its totals in `numbers`. Each read begins a transaction and ends it
+//! without a commit (no clause states this). A read fails with `Store` also if a row is malformed or
+//! if the `sqlite` crate runs out of memory. A crash after a read exposes only states that a crash
+//! before it could expose.
 #![tactic(auto, using(brk_store_transactions::proofs::Ending::read_is_over, crate::proofs::KeptIndex::read_keeps_index))]
 
 ghost use Rattle.std.specs.Prelude.{◌≡◌, ◌==◌, bytes_eq, filter, map};
-ghost use Rattle.brk_ref.specs.Rows.{abstract_request_row};
 ghost use Rattle.brk_ref.specs.Records.{abstract_broker_row};
 ghost use Rattle.brk_store_transactions.specs.Holds.{ReadPost};
 ghost use Rattle.brk_tables_schema.specs.Desk.{Brokers};
@@ -14,7 +13,7 @@ ghost use Rattle.brk_tables_schema.specs.Statements.{AreMatchingRows};
 
 use crate::Store;
 use brk_money::{CallFault, Id};
-use brk_ref::{BrokerRow, Name, RequestRow};
+use brk_ref::{BrokerRow, Name};
 use brk_store_transactions::begin_transaction;
 use sqlite::Alter;
 use std::alloc::Global;
@@ -28,20 +27,19 @@ impl<S: Alter> Store<S> {
         brk_tables_views::brokers_with_name(&mut tx, alloc, name)
     }
 
-    /// Returns all rows of TRADE_REQUEST, which are of the pending trades, sorted by trade,
-    /// ascending.
-    pub fn all_trade_requests(&mut self, alloc: Global) -> Result<Vec<RequestRow>, CallFault>
-        ensures read { ReadPost S.Store self.old self.new result (λ all t. map abstract_request_row all.items ≡ t.requests) }
-    {
-        let mut tx = begin_transaction(&mut self.conn);
-        brk_tables_views::all_requests(&mut tx, alloc)
-    }
-
     /// Returns the ids of the accounts of a broker, ascending.
     pub fn broker_account_ids(&mut self, alloc: Global, broker: Id) -> Result<Vec<Id>, CallFault>
         ensures read { ReadPost S.Store self.old self.new result (λ all t. all.items ≡ map (λ r. r.id) (filter (λ r. r.broker == broker) t.accounts)) }
     {
         let mut tx = begin_transaction(&mut self.conn);
         brk_tables_views::account_ids_of_broker(&mut tx, alloc, broker)
+    }
+
+    /// Returns the ids of all accounts, ascending.
+    pub fn account_ids(&mut self, alloc: Global) -> Result<Vec<Id>, CallFault>
+        ensures read { ReadPost S.Store self.old self.new result (λ all t. all.items ≡ map (λ r. r.id) t.accounts) }
+    {
+        let mut tx = begin_transaction(&mut self.conn);
+        brk_tables_views::all_account_ids(&mut tx, alloc)
     }
 }

@@ -5,21 +5,18 @@
 //! before it could expose.
 #![tactic(auto, using(brk_store_transactions::proofs::Ending::read_is_over, crate::proofs::KeptIndex::read_keeps_index))]
 
-ghost use Rattle.std.specs.Prelude.{◌≡◌, ◌==◌, ◌&&◌, Err, IfErr, OnErr, bytes_eq, map, nat_le, option_map, reverse, slice_get};
-ghost use Rattle.brk_money.specs.declared.fault.Fault.TheVariants as fault;
-ghost use Rattle.brk_model.specs.Run.{IsCallFault};
+ghost use Rattle.std.specs.Prelude.{◌≡◌, ◌==◌, ◌&&◌, bytes_eq, map, nat_le, option_map, reverse, slice_get};
 ghost use Rattle.brk_money.specs.Kinds.{is_same_trade_status, is_same_trade_type};
 ghost use Rattle.brk_money.specs.declared.status.Status.TheVariants.{Submitted};
 ghost use Rattle.brk_ref.specs.Records.{abstract_last_trade_row};
-ghost use Rattle.brk_ref.specs.Rows.{abstract_holding_row, abstract_request_row, abstract_summary_row, abstract_trade_row};
+ghost use Rattle.brk_ref.specs.Rows.{abstract_request_row, abstract_trade_row};
 ghost use Rattle.brk_store_transactions.specs.Holds.{ReadPost};
-ghost use Rattle.brk_tables_schema.specs.Desk.{LastTrades, Requests, Summaries, Trades};
+ghost use Rattle.brk_tables_schema.specs.Desk.{LastTrades, Requests, Trades};
 ghost use Rattle.brk_tables_schema.specs.Statements.{IsFirstMatch, AreMatchingRows};
-ghost use Rattle.brk_tables_trading.specs.Pages.{position_lots_by_age, page_after_skipped};
 
 use crate::Store;
-use brk_money::{CallFault, Fault, Id, Price, StoreFailed, TradeType};
-use brk_ref::{HoldingRow, LastTrade, RequestRow, SummaryRow, Symbol, TradeRow};
+use brk_money::{CallFault, Id, Price, StoreFailed, TradeType};
+use brk_ref::{LastTrade, RequestRow, Symbol, TradeRow};
 use brk_store_transactions::begin_transaction;
 use sqlite::Alter;
 use std::alloc::Global;
@@ -89,74 +86,12 @@ impl<S: Alter> Store<S> {
         brk_tables_trading::last_trade_by_symbol(&mut tx, symbol)
     }
 
-    pub(crate) fn page_of_oldest_lots(
-        &mut self,
-        alloc: Global,
-        account: Id,
-        symbol: &Symbol,
-        skipped: u32,
-    ) -> Result<Vec<HoldingRow>, CallFault>
-        ensures read { ReadPost S.Store self.old self.new result (λ all t. map abstract_holding_row all.items
-            ≡ page_after_skipped skipped (position_lots_by_age account symbol.now t)) }
+    /// Returns all rows of TRADE_REQUEST, which are of the pending trades, sorted by trade,
+    /// ascending.
+    pub fn all_trade_requests(&mut self, alloc: Global) -> Result<Vec<RequestRow>, CallFault>
+        ensures read { ReadPost S.Store self.old self.new result (λ all t. map abstract_request_row all.items ≡ t.requests) }
     {
         let mut tx = begin_transaction(&mut self.conn);
-        brk_tables_trading::oldest_lots(&mut tx, alloc, account, symbol, skipped)
-    }
-
-    pub(crate) fn page_of_newest_lots(
-        &mut self,
-        alloc: Global,
-        account: Id,
-        symbol: &Symbol,
-        skipped: u32,
-    ) -> Result<Vec<HoldingRow>, CallFault>
-        ensures read { ReadPost S.Store self.old self.new result (λ all t. map abstract_holding_row all.items
-            ≡ page_after_skipped skipped (reverse (position_lots_by_age account symbol.now t))) }
-    {
-        let mut tx = begin_transaction(&mut self.conn);
-        brk_tables_trading::newest_lots(&mut tx, alloc, account, symbol, skipped)
-    }
-
-    /// Returns the number of shares of each security that an account holds, sorted by symbol,
-    /// ascending; shares sold short count below 0.
-    pub fn read_summaries(
-        &mut self,
-        alloc: Global,
-        account: Id,
-    ) -> Result<Vec<SummaryRow>, CallFault>
-        ensures read { ReadPost S.Store self.old self.new result (AreMatchingRows Summaries abstract_summary_row (λ r. r.account == account)) }
-    {
-        let mut tx = begin_transaction(&mut self.conn);
-        brk_tables_trading::account_summaries(&mut tx, alloc, account)
-    }
-
-    /// `read_summaries` for a caller that returns a `Fault`.
-    pub fn summaries_of(&mut self, alloc: Global, account: Id) -> Result<Vec<SummaryRow>, Fault>
-        ensures read { ReadPost S.Store self.old self.new result (AreMatchingRows Summaries abstract_summary_row (λ r. r.account == account)) }
-        ensures fault { IfErr result IsCallFault }
-    {
-        Ok(self.read_summaries(alloc, account)?)
-    }
-
-    /// Returns the number of shares of a security that an account holds, below 0 if sold short.
-    pub fn read_summary(
-        &mut self,
-        account: Id,
-        symbol: &Symbol,
-    ) -> Result<Option<SummaryRow>, StoreFailed>
-        ensures read { ReadPost S.Store self.old self.new result (IsFirstMatch Summaries abstract_summary_row (λ r. (r.account == account)
-            && bytes_eq r.symbol symbol.now)) }
-    {
-        let mut tx = begin_transaction(&mut self.conn);
-        brk_tables_trading::position_summary(&mut tx, account, symbol)
-    }
-
-    /// `read_summary` for a caller that returns a `Fault`.
-    pub fn summary_of(&mut self, account: Id, symbol: &Symbol) -> Result<Option<SummaryRow>, Fault>
-        ensures read { ReadPost S.Store self.old self.new result (IsFirstMatch Summaries abstract_summary_row (λ r. (r.account == account)
-            && bytes_eq r.symbol symbol.now)) }
-        ensures fault { OnErr result (result ≡ Err fault.Store) }
-    {
-        Ok(self.read_summary(account, symbol)?)
+        brk_tables_views::all_requests(&mut tx, alloc)
     }
 }
