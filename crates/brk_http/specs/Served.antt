@@ -57,4 +57,5 @@ pub record DeskServesStream {S C : Type 0} (g : Ghosts S) (gives : C → ℕ →
 -- The peer was served by the desk, with the result `ended`, as `DeskServesStream` says of the bytes
 -- that it sends and has received; or its stream could not be prepared (`ServesPeer`).
 abbrev pub DeskServesPeer : {S C P : Type 0} → Ghosts S → (C → ℕ → C → Type 0) → (P → Option Text) → (P → Option Text) → PeerRelation C (Held S) P
-DeskServesPeer g gives sends received = ServesPeer (DeskServesStream g gives) sends received
+DeskServesPeer {S} {C} g gives sends received =
+    ServesPeer {C = C} {D = Held S} (λ bytes clock old ended later new. DeskServesStream g gives bytes clock old ended later new) sends received

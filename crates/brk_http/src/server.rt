@@ -22,7 +22,7 @@ impl<C: Clock, S: Alter> StreamServer for DeskServer<C, S> {
 
     type Desk = Desk<S>;
 
-    ghost serves = { DeskServesStream S.Store C.gives };
+    ghost serves = { λ bytes clock old ended later new. DeskServesStream S.Store C.gives bytes clock old ended later new };
 
     fn serve_halves<R: Read + Drop, W: Write>(
         alloc: Global,

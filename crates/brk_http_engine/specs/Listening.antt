@@ -30,8 +30,8 @@ pub record AcceptHasResult {L C D X : Type 0} (accepts : AcceptRelation L X) (ol
   pub desk : new.desk ≡ old.desk
 
 -- The next stream has this end. `None`: the accept failed because the peer broke the stream off
--- (`Aborted`); clock and desk are unchanged. Otherwise its peer was accepted and served, with this
--- result, and became `left`.
+-- (`Aborted`); clock and desk are unchanged. Otherwise its peer was accepted and served with this
+-- result, and may have received bytes (`left`).
 abbrev pub HandlesStream : {L C D P : Type 0} → AcceptRelation L P → PeerRelation C D P → ListenerClockAndDesk L C D → StreamEnd → ListenerClockAndDesk L C D
     → Type 0
 HandlesStream accepts serves old None new = AcceptHasResult accepts old (Err Aborted) new
