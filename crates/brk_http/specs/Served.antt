@@ -41,8 +41,8 @@ abbrev pub change_of_stream : {C : Type 0} → StreamBytes → C → C → Clock
 change_of_stream bytes clock later = record { clock = clock; later = later; old = bytes.before; new = bytes.after }
 
 -- A stream with these bytes was served, with the result `ended`. Whatever they are, the desk and the
--- clock changed only by a sequence of calls (`ServesStreamByCalls`). If those that the peer sends
--- are specified, the calls, the result and the bytes that it received are those of its requests.
+-- clock changed only by a sequence of calls (`ServesStreamByCalls`). If those that the peer sends are
+-- specified, its requests determine the calls, the number of replies and the bytes that it received.
 pub record DeskServesStream {S C : Type 0} (g : Ghosts S) (gives : C → ℕ → C → Type 0) (bytes : StreamBytes) (clock : C) (old : Held S)
     (ended : Result ℕ ServeFault) (later : C) (new : Held S) : Type 0 where
   pub by_calls : ServesStreamByCalls g gives clock old later new ended
