@@ -1,7 +1,9 @@
 //! Test of peers in memory, whose streams are served in sequence on one desk.
 
 use brk_desk::Desk;
-use brk_http::{AcceptFault, ListenFault, Listener, Peer, ServeFault, StreamServer, serve_listener};
+use brk_http::{
+    AcceptFault, ListenFault, Listener, Peer, ServeFault, StreamServer, serve_listener,
+};
 use brk_tests_desks::desks::desk_with_reference_data;
 use brk_tests_desks::requests::{WantedReply, format_post_request, format_wanted_reply};
 use brk_tests_desks::{Still, expect, open_in_memory};
@@ -23,7 +25,10 @@ const ORDER: (&str, &str, WantedReply) = (
 const QUERY: (&str, &str, WantedReply) = (
     "/ask/submitted",
     "[]",
-    WantedReply::Open("200 OK", "{\"view\":[[\"1\",\"TMB\",\"ABC\",\"100\",\"10.00\"]]}"),
+    WantedReply::Open(
+        "200 OK",
+        "{\"view\":[[\"1\",\"TMB\",\"ABC\",\"100\",\"10.00\"]]}",
+    ),
 );
 
 // A peer that sends the bytes `sent`, and stores what it receives.
