@@ -1,7 +1,7 @@
 -- What a job does on an open desk, and its ending. `g` is the specification of the storage `S`,
 -- `machine` has the clock, `old` and `new` are the desk's store before and after. A condition that
 -- bytes were written (`Appends`) is vacuous if the content before is unknown.
-use Rattle.std.specs.Prelude.{◌≡◌, ◌⊎◌, Bool, ℕ, List, Option, Result, Ok, Err, codes, map, option_map, string_bytes, take}
+use Rattle.std.specs.Prelude.{◌≡◌, ◌⊎◌, Bool, ℕ, List, Option, None, Result, Ok, Err, codes, map, option_map, string_bytes, take}
 use Rattle.std.specs.Borrow.{Bor}
 use Rattle.std.specs.Io.KnownBytes.{Appends}
 use Rattle.std.specs.declared.net.tcp.TcpListener.{TcpListener}
@@ -24,7 +24,7 @@ use Rattle.brk_model_explain.specs.Explain.{ExplainRequest, explanation, read_ex
 use Rattle.brk_import.specs.CrashTables.{CrashExposesOnlyOneOf}
 use Rattle.brk_http_engine.specs.Listening.{ServeEachStreamPost}
 use Rattle.brk_http_engine.specs.declared.listen_faults.ListenFault.{ListenFault}
-use Rattle.brk_http.specs.Served.{DeskServesStream}
+use Rattle.brk_http.specs.Served.{DeskServesPeer}
 use Rattle.brk_import.specs.Rows.{BatchMatchesRowCalls}
 use Rattle.brk_io.specs.Readings.{ReturnsReading, program_clock}
 use Rattle.brk_io.specs.Span.{ClockAndWriterChange}
@@ -112,7 +112,8 @@ pub record ServesListener {S C : Type 0} (g : Ghosts S) (gives : C → ℕ → C
   pub last : Bor TcpListener
   pub ended : result ≡ result_of_serving listened
   pub served : IsSomeDeskRun g old new
-  pub taken : ServeEachStreamPost {X = TcpStream} (λ _ _ _. Unit {0}) (DeskServesStream g gives) streams
+  -- The peers are sockets: no contract says what they send or receive.
+  pub taken : ServeEachStreamPost {P = TcpStream} (λ _ _ _. Unit {0}) (DeskServesPeer g gives (λ _. None) (λ _. None)) streams
       (record { listener = first; clock = clock; desk = old }) listened (record { listener = last; clock = later; desk = new })
 
 -- The job served its streams with the readings of the program's clock (`ServesListener`), or its

@@ -1,14 +1,14 @@
 -- The calls of a stream, as calls of a desk.
-use Rattle.std.proofs.Common.{◌≡◌, ℕ, ◌≤◌, List, [], ◌∷◌, length, map, Option, Some, None, IfSome, refl, ap, arith, subst, subst₂, sym}
+use Rattle.std.proofs.Common.{◌≡◌, ℕ, ◌≤◌, List, [], ◌∷◌, length, map, Option, Some, None, IfSome, refl, ap, arith, inl, inr, subst, subst₂, sym}
 use Rattle.std.specs.Prelude.{Result}
 use Rattle.std.proofs.lemmas.List.{length-map}
 use Rattle.sqlite_trees.specs.declared.store.Store.{Ghosts}
 use Rattle.sqlite.specs.Held.{Held}
-use Rattle.brk_desk.proofs.Made.{run_of}
+use Rattle.brk_desk.proofs.Made.{not_run, run_of}
 use Rattle.brk_desk.specs.Answers.{model_outcome}
 use Rattle.brk_desk.specs.Commands.{model_call}
 use Rattle.brk_desk.specs.CallPosts.{OutcomePost}
-use Rattle.brk_desk.specs.Runs.{IsRunWithOutcomes}
+use Rattle.brk_desk.specs.Runs.{IsRunWithOutcomes, IsSomeDeskRun}
 use Rattle.brk_desk.specs.declared.call.Call.{Call}
 use Rattle.brk_desk.specs.declared.call.Outcome.{Outcome}
 use Rattle.brk_model.specs.Run as run
@@ -23,6 +23,7 @@ use Rattle.brk_http_engine.specs.Promises.{CallWithClock, ChangesOnlyByCalls, Re
 use Rattle.brk_http_engine.specs.Turns.{IsStreamResult}
 use Rattle.brk_io.specs.declared.stream_fault.ServeFault.{ServeFault}
 use Rattle.brk_http.specs.CallOutcomes.{DeskCallHasOutcome}
+use Rattle.brk_http.specs.Served.{DeskServesPeer}
 use Rattle.brk_model_http.specs.Asked.{model_parsers}
 
 still_few : (made : List (ℕ × Call)) (calls : List (ℕ × run.Call)) (n : ℕ) → map model_call made ≡ calls → length calls ≤ n → length made ≤ n
@@ -77,3 +78,21 @@ module _ {S : Type 0} (g : Ghosts S) where
         still_few r.0 calls most r.2 few,
         subst (λ (cs : List (ℕ × run.Call)). ReadsClockForCalls gives clock cs later) (sym r.2) both.1,
       )
+
+  -- what the calls of a stream match, for a stream whose bytes are specified
+  pub matches_if_known : {C : Type 0} (gives : C → ℕ → C → Type 0) (input : Option Text) (first last : Held S) (outside : ClockAndWriterChange C)
+      (result : Result ℕ ServeFault) (most : ℕ)
+      → ((calls : List (ℕ × Call)) × (outcomes : List Outcome) × IsRunWithOutcomes g first last calls outcomes × (length calls ≤ most)
+      × IfSome input (λ text. StreamMatchesScript model_parsers gives text (map model_call calls, map model_outcome outcomes) outside result))
+      → IfSome input (λ text. (calls : List (ℕ × Call)) × (outcomes : List Outcome) × IsRunWithOutcomes g first last calls outcomes
+      × StreamMatchesScript model_parsers gives text (map model_call calls, map model_outcome outcomes) outside result)
+  matches_if_known gives None first last outside result most h = tt
+  matches_if_known gives (Some text) first last outside result most (calls, outcomes, run, few, matched) = (calls, outcomes, run, matched)
+
+  -- whatever the peer sends, the desk makes a run for it
+  pub runs_for_peer : {C P : Type 0} (gives : C → ℕ → C → Type 0) (sends received : P → Option Text) (clock : C) (old : Held S) (peer : P)
+      (ended : Result ℕ ServeFault) (left : P) (later : C) (new : Held S) → DeskServesPeer g gives sends received clock old peer ended left later new
+      → IsSomeDeskRun g old new
+  runs_for_peer gives sends received clock old peer ended left later new (inl served) =
+      record { calls = served.by_calls.calls; outcomes = served.by_calls.outcomes; run = served.by_calls.run }
+  runs_for_peer gives sends received clock old peer ended left later new (inr refused) = not_run g old new refused.same_desk

@@ -3,14 +3,16 @@
 #![tactic(auto)]
 
 mod at_desk;
-mod at_socket;
 pub mod keys;
 mod listening;
+mod server;
 mod streams;
 
 pub use at_desk::DeskService;
-pub use at_socket::STREAM_TIMEOUT_SECONDS;
-pub use brk_http_engine::{AcceptFault, FaultKind, ListenFault, Listener, ServeFault};
+pub use brk_http_engine::{
+    AcceptFault, FaultKind, ListenFault, Listener, Peer, STREAM_TIMEOUT_SECONDS, ServeFault,
+    StreamServer,
+};
 pub use brk_import::Clock;
 pub use listening::serve_listener;
 pub use streams::serve_stream;

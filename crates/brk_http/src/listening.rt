@@ -1,14 +1,13 @@
 ghost use Rattle.brk_desk.specs.Runs.{IsSomeDeskRun};
-ghost use Rattle.brk_http.specs.Served.{DeskServesStream};
+ghost use Rattle.brk_http.specs.Served.{DeskServesPeer};
 ghost use Rattle.brk_http_engine.specs.Listening.{ServeEachStreamPost};
 
-use crate::at_socket::SocketServer;
+use crate::server::DeskServer;
 use brk_desk::Desk;
-use brk_http_engine::{ListenFault, Listener, serve_each_stream};
+use brk_http_engine::{ListenFault, Listener, Peer, serve_each_stream};
 use brk_import::Clock;
 use sqlite::Alter;
 use std::alloc::Global;
-use std::net::TcpStream;
 
 /// Accepts and serves `streams` streams of a listener, in sequence. A stream that its peer broke
 /// off, or that ended with `Read` or `Write`, counts as one. An idle stream ends so after
@@ -17,7 +16,7 @@ use std::net::TcpStream;
 /// Fails with `Stream` at the first stream that ended because memory ran out, and with `Net` at the
 /// first accept that failed for another reason than that the peer broke off. The promises of
 /// `Desk::run` hold for the calls of all streams, also for a crash.
-pub fn serve_listener<L: Listener<Stream = TcpStream>, C: Clock, S: Alter>(
+pub fn serve_listener<P: Peer, L: Listener<Stream = P>, C: Clock, S: Alter>(
     alloc: Global,
     listener: &mut L,
     streams: u32,
@@ -30,8 +29,8 @@ pub fn serve_listener<L: Listener<Stream = TcpStream>, C: Clock, S: Alter>(
     // At `Ok` exactly `streams` streams were handled, and none of them ended because memory ran
     // out. `Stream` has the fault of the last stream, whose kind is `Memory`. `Net` is returned
     // only after a failed accept.
-    ensures taken { ServeEachStreamPost L.accepts (DeskServesStream S.Store C.gives) streams (record { listener = listener.old; clock = clock.old; desk = desk.old })
+    ensures taken { ServeEachStreamPost L.accepts (DeskServesPeer S.Store C.gives P.sends P.received) streams (record { listener = listener.old; clock = clock.old; desk = desk.old })
         result (record { listener = listener.new; clock = clock.new; desk = desk.new }) }
 {
-    serve_each_stream::<L, SocketServer<C, S>>(alloc, listener, streams, clock, desk)
+    serve_each_stream::<P, L, DeskServer<C, S>>(alloc, listener, streams, clock, desk)
 }

@@ -5,8 +5,9 @@ use Rattle.std.proofs.lemmas.List.{length-append}
 use Rattle.brk_io.specs.declared.stream_fault.ServeFault.{ServeFault}
 use Rattle.brk_io.specs.declared.stream_fault.FaultKind.{FaultKind}
 use Rattle.brk_io.specs.declared.stream_fault.FaultKind.TheVariants as kinds
-use Rattle.brk_http_engine.specs.Listening.{AcceptRelation, AcceptHasResult, ServeEachStreamPost, MayAcceptNextStream, ListenerClockAndDesk, ServeRelation}
+use Rattle.brk_http_engine.specs.Listening.{AcceptRelation, AcceptHasResult, ServeEachStreamPost, MayAcceptNextStream, ListenerClockAndDesk}
 use Rattle.brk_http_engine.specs.Listening.{StreamEnd, HandlesStream, HandlesStreamsInOrder}
+use Rattle.brk_http_engine.specs.Peers.{PeerRelation}
 use Rattle.brk_http_engine.specs.declared.listen_faults.AcceptFault.TheVariants.{Aborted, Failed}
 use Rattle.brk_http_engine.specs.declared.listen_faults.ListenFault.{ListenFault}
 use Rattle.brk_http_engine.specs.declared.listen_faults.ListenFault.TheVariants.{Stream, Net}
@@ -23,7 +24,7 @@ read_goes_on kind read memory = cc
 pub write_goes_on : (kind : FaultKind) → kind ≡ kinds.Write → kind ≢ kinds.Memory
 write_goes_on kind write memory = cc
 
-module _ {L C D X : Type 0} (accepts : AcceptRelation L X) (serves : ServeRelation C D X) where
+module _ {L C D P : Type 0} (accepts : AcceptRelation L P) (serves : PeerRelation C D P) where
   all_then : (ends more : List StreamEnd) (first mid last : ListenerClockAndDesk L C D) → HandlesStreamsInOrder accepts serves first ends mid
       → HandlesStreamsInOrder accepts serves mid more last → HandlesStreamsInOrder accepts serves first (ends ++ more) last
   all_then [] more first mid last same after = subst (λ s. HandlesStreamsInOrder accepts serves s more last) same after
@@ -36,14 +37,14 @@ module _ {L C D X : Type 0} (accepts : AcceptRelation L X) (serves : ServeRelati
   pub one_refused : (old new : ListenerClockAndDesk L C D) → AcceptHasResult accepts old (Err Failed) new → ServeEachStreamPost accepts serves 1 old (Err Net) new
   one_refused old new h = ([], old, refl, omega arith, h)
 
-  pub one_served : (old new : ListenerClockAndDesk L C D) (stream : X) (ended : Result ℕ ServeFault) → accepts old.listener (Ok stream) new.listener
-      → serves old.clock old.desk stream ended new.clock new.desk → MayAcceptNextStream (Some ended) → ServeEachStreamPost accepts serves 1 old (Ok tt) new
-  one_served old new stream ended accepted served on = (Some ended ∷ [], (new, (stream, accepted, served), on, refl), refl)
+  pub one_served : (old new : ListenerClockAndDesk L C D) (peer left : P) (ended : Result ℕ ServeFault) → accepts old.listener (Ok peer) new.listener
+      → serves old.clock old.desk peer ended left new.clock new.desk → MayAcceptNextStream (Some ended) → ServeEachStreamPost accepts serves 1 old (Ok tt) new
+  one_served old new peer left ended accepted served on = (Some ended ∷ [], (new, (peer, left, accepted, served), on, refl), refl)
 
-  pub one_failed : (old new : ListenerClockAndDesk L C D) (stream : X) (fault : ServeFault) → accepts old.listener (Ok stream) new.listener
-      → serves old.clock old.desk stream (Err fault) new.clock new.desk → fault.kind ≡ kinds.Memory
+  pub one_failed : (old new : ListenerClockAndDesk L C D) (peer left : P) (fault : ServeFault) → accepts old.listener (Ok peer) new.listener
+      → serves old.clock old.desk peer (Err fault) left new.clock new.desk → fault.kind ≡ kinds.Memory
       → ServeEachStreamPost accepts serves 1 old (Err (Stream fault)) new
-  one_failed old new stream fault accepted served memory = ([], old, refl, omega arith, (stream, accepted, served), memory)
+  one_failed old new peer left fault accepted served memory = ([], old, refl, omega arith, (peer, left, accepted, served), memory)
 
   pub none_yet : (scene : ListenerClockAndDesk L C D) → ServeEachStreamPost accepts serves 0 scene (Ok tt) scene
   none_yet scene = ([], refl, refl)
@@ -64,13 +65,13 @@ module _ {L C D X : Type 0} (accepts : AcceptRelation L X) (serves : ServeRelati
       (ends ++ more, next, all_then ends more first mid next all rest, below_both ends more n streams count less few, failed)
 
 -- whatever each stream does to the desk is done to it by all of them
-module _ {L C D X : Type 0} (accepts : AcceptRelation L X) (serves : ServeRelation C D X) (Leads : D → D → Type 0)
+module _ {L C D P : Type 0} (accepts : AcceptRelation L P) (serves : PeerRelation C D P) (Leads : D → D → Type 0)
     (none : (old new : D) → new ≡ old → Leads old new) (next : (old mid new : D) → Leads old mid → Leads mid new → Leads old new)
-    (each : (clock : C) (desk : D) (stream : X) (ended : Result ℕ ServeFault) (later : C) (after : D)
-    → serves clock desk stream ended later after → Leads desk after) where
+    (each : (clock : C) (desk : D) (peer : P) (ended : Result ℕ ServeFault) (left : P) (later : C) (after : D)
+    → serves clock desk peer ended left later after → Leads desk after) where
   taken_by : (old new : ListenerClockAndDesk L C D) (end : StreamEnd) → HandlesStream accepts serves old end new → Leads old.desk new.desk
   taken_by old new None h = none old.desk new.desk h.desk
-  taken_by old new (Some ended) (stream, accepted, served) = each old.clock old.desk stream ended new.clock new.desk served
+  taken_by old new (Some ended) (peer, left, accepted, served) = each old.clock old.desk peer ended left new.clock new.desk served
 
   all_by : (ends : List StreamEnd) (old new : ListenerClockAndDesk L C D) → HandlesStreamsInOrder accepts serves old ends new → Leads old.desk new.desk
   all_by [] old new same = none old.desk new.desk (ap (λ s. s.desk) same)

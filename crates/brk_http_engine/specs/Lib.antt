@@ -6,3 +6,4 @@ pub mod Turns
 pub mod Limits
 pub mod Promises
 pub mod Listening
+pub mod Peers

@@ -1,7 +1,8 @@
--- Streams of a listener, accepted and served in sequence, for any listener and server of streams.
+-- Streams of a listener, accepted and served in sequence, for any listener, peers and server.
 use Rattle.std.specs.Prelude.{◌≡◌, ◌≢◌, ◌<◌, ℕ, List, [], ◌∷◌, Option, None, Some, Result, Ok, Err, length}
 use Rattle.brk_io.specs.declared.stream_fault.ServeFault.{ServeFault}
 use Rattle.brk_io.specs.declared.stream_fault.FaultKind.TheVariants.{Memory}
+use Rattle.brk_http_engine.specs.Peers.{PeerRelation}
 use Rattle.brk_http_engine.specs.declared.listen_faults.AcceptFault.{AcceptFault}
 use Rattle.brk_http_engine.specs.declared.listen_faults.AcceptFault.TheVariants.{Aborted, Failed}
 use Rattle.brk_http_engine.specs.declared.listen_faults.ListenFault.{ListenFault}
@@ -17,10 +18,6 @@ pub record ListenerClockAndDesk (L C D : Type 0) : Type 0 where
 abbrev pub AcceptRelation : Type 0 → Type 0 → Type 1
 AcceptRelation L X = L → Result X AcceptFault → L → Type 0
 
--- The type of the relation of serving a stream: clock and desk before, stream, result, both after.
-abbrev pub ServeRelation : Type 0 → Type 0 → Type 0 → Type 1
-ServeRelation C D X = C → D → X → Result ℕ ServeFault → C → D → Type 0
-
 -- The end of a stream: its result, or `None` if its peer broke it off before it was accepted.
 abbrev pub StreamEnd : Type 0
 StreamEnd = Option (Result ℕ ServeFault)
@@ -33,12 +30,13 @@ pub record AcceptHasResult {L C D X : Type 0} (accepts : AcceptRelation L X) (ol
   pub desk : new.desk ≡ old.desk
 
 -- The next stream has this end. `None`: the accept failed because the peer broke the stream off
--- (`Aborted`); clock and desk are unchanged. Otherwise it was accepted and served with this result.
-abbrev pub HandlesStream : {L C D X : Type 0} → AcceptRelation L X → ServeRelation C D X → ListenerClockAndDesk L C D → StreamEnd → ListenerClockAndDesk L C D
+-- (`Aborted`); clock and desk are unchanged. Otherwise its peer was accepted and served with this
+-- result, and may have received bytes (`left`).
+abbrev pub HandlesStream : {L C D P : Type 0} → AcceptRelation L P → PeerRelation C D P → ListenerClockAndDesk L C D → StreamEnd → ListenerClockAndDesk L C D
     → Type 0
 HandlesStream accepts serves old None new = AcceptHasResult accepts old (Err Aborted) new
-HandlesStream {X = X} accepts serves old (Some ended) new =
-    (stream : X) × accepts old.listener (Ok stream) new.listener × serves old.clock old.desk stream ended new.clock new.desk
+HandlesStream {P = P} accepts serves old (Some ended) new =
+    (peer : P) × (left : P) × accepts old.listener (Ok peer) new.listener × serves old.clock old.desk peer ended left new.clock new.desk
 
 -- The next stream may be accepted after one with this end: memory did not run out.
 abbrev pub MayAcceptNextStream : StreamEnd → Type 0
@@ -48,7 +46,7 @@ MayAcceptNextStream (Some (Err fault)) = fault.kind ≢ Memory
 
 -- Exactly the next streams of the listener were handled from `old` to `new`, one for each of these
 -- ends, in order, and none ended because memory ran out. Without ends `new` equals `old`.
-abbrev pub HandlesStreamsInOrder : {L C D X : Type 0} → AcceptRelation L X → ServeRelation C D X → ListenerClockAndDesk L C D → List StreamEnd
+abbrev pub HandlesStreamsInOrder : {L C D P : Type 0} → AcceptRelation L P → PeerRelation C D P → ListenerClockAndDesk L C D → List StreamEnd
     → ListenerClockAndDesk L C D → Type 0
 HandlesStreamsInOrder accepts serves old [] new = new ≡ old
 HandlesStreamsInOrder {L} {C} {D} accepts serves old (end ∷ ends) new =
@@ -57,7 +55,7 @@ HandlesStreamsInOrder {L} {C} {D} accepts serves old (end ∷ ends) new =
 -- The postcondition of accepting and serving `streams` streams in sequence. `Ok`: exactly `streams`
 -- were handled. `Stream`: fewer were handled, and one more ended with this fault, because memory
 -- ran out. `Net`: fewer were handled, and the next accept failed; clock and desk are unchanged.
-abbrev pub ServeEachStreamPost : {L C D X : Type 0} → AcceptRelation L X → ServeRelation C D X → ℕ → ListenerClockAndDesk L C D → Result (Unit {0}) ListenFault
+abbrev pub ServeEachStreamPost : {L C D P : Type 0} → AcceptRelation L P → PeerRelation C D P → ℕ → ListenerClockAndDesk L C D → Result (Unit {0}) ListenFault
     → ListenerClockAndDesk L C D → Type 0
 ServeEachStreamPost accepts serves streams old (Ok done) new =
     (ends : List StreamEnd) × HandlesStreamsInOrder accepts serves old ends new × (length ends ≡ streams)

@@ -1,8 +1,8 @@
 //! Tests of desks in memory that no transcript of `crates/brk_tests_cases/data/` can show: readers
-//! and writers that fail, streams of requests that come in pieces or end early, the creation of
-//! stores, runs of calls, walks, and the number of rows that a sale reads. The command `test` of a
-//! transcript runs one of them. A test fails if what it checks is not so, and also if a desk for it
-//! cannot be set up or memory runs out.
+//! and writers that fail, streams of requests that come in pieces or end early, peers in memory,
+//! the creation of stores, runs of calls, walks, and the number of rows that a sale reads. The
+//! command `test` of a transcript runs one of them. A test fails if what it checks is not so, and
+//! also if a desk for it cannot be set up or memory runs out.
 #![tactic(auto)]
 
 mod cuts;
@@ -29,6 +29,8 @@ pub fn run_test(alloc: Global, name: &str) -> Option<Result<(), Fail>> {
             http::cuts::a_stream_can_be_retried_after_a_read_fault(alloc),
         "a_stream_can_be_retried_after_a_write_fault" =>
             http::cuts::a_stream_can_be_retried_after_a_write_fault(alloc),
+        "peers_in_memory_receive_their_replies" =>
+            http::peers::peers_in_memory_receive_their_replies(alloc),
         "streams_in_pieces_get_the_same_replies" =>
             http::streams::streams_in_pieces_get_the_same_replies(alloc),
         "a_head_has_at_most_16_384_bytes" => http::streams::a_head_has_at_most_16_384_bytes(alloc),

@@ -1,16 +1,11 @@
-//! The server of TCP streams: the time limits of the socket, and the draining after the last reply.
+//! A peer at a TCP socket: the time limits of the socket, and the draining after the last reply.
 
-ghost use Rattle.brk_http.specs.Served.{DeskServesStream};
-
-use crate::streams::serve_stream;
-use brk_desk::Desk;
-use brk_http_engine::{FaultKind, ServeFault, StreamServer};
-use brk_import::Clock;
-use sqlite::Alter;
+use crate::peer::Peer;
+use crate::stream_server::StreamServer;
+use brk_io::stream_fault::{FaultKind, ServeFault};
 use std::alloc::Global;
 use std::io;
 use std::io::Read;
-use std::marker::PhantomData;
 use std::net::{Shutdown, TcpStream};
 use std::time::Duration;
 
@@ -44,39 +39,25 @@ fn drain_before_close(stream: &TcpStream) -> io::Result<()> {
     Ok(())
 }
 
-/// A server of TCP streams, which executes their requests on a desk.
-pub struct SocketServer<C, S> {
-    _clock: PhantomData<C>,
-    _store: PhantomData<S>,
-}
-
-impl<C: Clock, S: Alter> StreamServer for SocketServer<C, S> {
-    type Stream = TcpStream;
-
-    type Clock = C;
-
-    type Desk = Desk<S>;
-
-    ghost serves = { DeskServesStream S.Store C.gives };
-
-    /// Serves the requests of a TCP stream. Tested only: the time limits of the socket, the fault
-    /// `Read` before any request if they cannot be set, and the draining after the last reply,
-    /// whose failure is ignored.
-    fn serve_accepted(
+impl Peer for TcpStream {
+    /// Tested only: the time limits of the socket, the fault `Read` before any request if they
+    /// cannot be set, and the draining after the last reply, whose failure is ignored.
+    fn serve_by<H: StreamServer>(
+        &mut self,
         alloc: Global,
-        stream: TcpStream,
-        clock: &mut C,
-        desk: &mut Desk<S>,
+        clock: &mut H::Clock,
+        desk: &mut H::Desk,
     ) -> Result<u64, ServeFault> {
-        if set_time_limits(&stream).is_err() {
+        let stream: &TcpStream = self;
+        if set_time_limits(stream).is_err() {
             return Err(ServeFault {
                 done: 0,
                 kind: FaultKind::Read,
             });
         }
-        let mut writer = &stream;
-        let ended = serve_stream(alloc, &stream, &mut writer, clock, desk);
-        let _ = drain_before_close(&stream);
+        let mut writer = stream;
+        let ended = H::serve_halves(alloc, stream, &mut writer, clock, desk);
+        let _ = drain_before_close(stream);
         ended
     }
 }
