@@ -9,3 +9,4 @@ pub mod Placed
 pub mod Printed
 pub mod Sequence
 pub mod Served
+pub mod Told

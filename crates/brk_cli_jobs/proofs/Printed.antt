@@ -48,7 +48,7 @@ readings {R} t clock later (moment ∷ moments) is h =
     (first.0, readings t h.0 later moments first.1 h.2)
 
 -- a job that was done was done before the close, which did not fail
-both_done : (reached : Ending) (closed : Result (Unit {0}) Fault) → ending_after_close reached closed ≡ ending.Done → (reached ≡ ending.Done) × (closed ≡ Ok tt)
+pub both_done : (reached : Ending) (closed : Result (Unit {0}) Fault) → ending_after_close reached closed ≡ ending.Done → (reached ≡ ending.Done) × (closed ≡ Ok tt)
 both_done ending.Done (Ok u) e = (refl, refl)
 both_done ending.Done (Err fault) e = absurd (cc)
 both_done (ending.Open fault) closed e = absurd (cc)

@@ -2,6 +2,7 @@ pub mod BatchText
 pub mod Endings
 pub mod Examined
 pub mod Files
+pub mod JobText
 pub mod Jobs
 pub mod Opened
 pub mod Opening

@@ -1,10 +1,13 @@
-//! The files of desks, over any place that has them, and those of the machine.
+//! Desks in files, at any place that has files.
 
 ghost use Rattle.std.specs.Prelude.{ℕ, List, Result};
 ghost use Rattle.brk_money.specs.declared.fault.Fault.{Fault};
 
-use crate::file::{FileDesk, close_desk_file, open_desk_file, open_or_create_desk_file};
+use crate::file::{close_desk, open_desk, open_or_create_desk};
+use crate::file_place::{FilePlace, MachinePlace};
 use brk_money::Fault;
+use brk_store::Store;
+use std::alloc::Global;
 
 /// A place that has desks in files, each at a path.
 pub trait DeskFiles {
@@ -32,46 +35,49 @@ pub trait DeskFiles {
         ensures { closes store result };
 }
 
-/// The files of the machine.
+/// The desks in the files of a place.
 #[derive(Clone, Copy)]
-pub struct MachineFiles<'a> {
-    rt: &'a HostRuntime,
+pub struct PlaceFiles<P> {
+    alloc: Global,
+    place: P,
 }
 
-impl<'a> MachineFiles<'a> {
-    pub fn new(rt: &'a HostRuntime) -> MachineFiles<'a> {
-        MachineFiles { rt }
+/// The desks in the files of the machine.
+pub type MachineFiles<'a> = PlaceFiles<MachinePlace<'a>>;
+
+impl<'a> PlaceFiles<MachinePlace<'a>> {
+    pub fn new(rt: &'a HostRuntime) -> PlaceFiles<MachinePlace<'a>> {
+        PlaceFiles {
+            alloc: rt.alloc(),
+            place: MachinePlace::new(rt),
+        }
     }
 }
 
-/// No contract of a file names its path.
-impl DeskFiles for MachineFiles<'_> {
-    ghost use Rattle.std.specs.Prelude.{◌≡◌, Err, IfOk, OnErr, OnOk};
-    ghost use Rattle.sqlite.specs.Files.{over_files};
-    ghost use Rattle.brk_money.specs.declared.fault.Fault.TheVariants as fault;
-    ghost use Rattle.brk_cli_jobs.specs.Files.{HasLastCommitInFile};
+impl<P: FilePlace> DeskFiles for PlaceFiles<P> {
+    ghost use Rattle.std.specs.Prelude.{IfOk};
     ghost use Rattle.brk_cli_jobs.specs.Opened.{RepresentsRowsOfFile};
-    ghost use Rattle.brk_cli_jobs.specs.Opening.{OpenOrCreatePost, OpenPost};
+    ghost use Rattle.brk_cli_jobs.specs.Opening.{ClosePost, OpenOrCreatePost, OpenPost};
 
-    type Desk = FileDesk;
+    type Desk = Store<P::Storage>;
 
-    ghost opens_or_creates = { λ _ result. OpenOrCreatePost result × IfOk result (λ store. RepresentsRowsOfFile over_files store) };
+    ghost opens_or_creates = { λ path result. OpenOrCreatePost P.Storage.Store P.connects P.disconnects path result
+        × IfOk result (λ store. RepresentsRowsOfFile P.Storage.Store store) };
 
-    ghost opens = { λ _ result. OpenPost result × IfOk result (λ store. RepresentsRowsOfFile over_files store) };
+    ghost opens = { λ path result. OpenPost P.Storage.Store P.finds_blank P.connects P.disconnects path result
+        × IfOk result (λ store. RepresentsRowsOfFile P.Storage.Store store) };
 
-    ghost closes = { λ store result. OnOk result (HasLastCommitInFile store) × OnErr result (result ≡ Err fault.Store) };
+    ghost closes = { λ store result. ClosePost P.disconnects store result };
 
-    fn open_or_create(&self, path: &str) -> Result<FileDesk, Fault> {
-        open_or_create_desk_file(self.rt, path)
+    fn open_or_create(&self, path: &str) -> Result<Store<P::Storage>, Fault> {
+        open_or_create_desk(self.alloc, &self.place, path)
     }
 
-    fn open(&self, path: &str) -> Result<FileDesk, Fault> {
-        open_desk_file(self.rt, path)
+    fn open(&self, path: &str) -> Result<Store<P::Storage>, Fault> {
+        open_desk(self.alloc, &self.place, path)
     }
 
-    fn close(&self, store: FileDesk) -> Result<(), Fault>
-        ensures { OnOk result (HasLastCommitInFile store) × OnErr result (result ≡ Err fault.Store) }
-    {
-        Ok(close_desk_file(store)?)
+    fn close(&self, store: Store<P::Storage>) -> Result<(), Fault> {
+        close_desk(&self.place, store)
     }
 }

@@ -1,56 +1,23 @@
-//! A desk's database in a file.
+//! A desk's database in a file, at any place that has files.
 
-ghost use Rattle.std.specs.Prelude.{◌≡◌, Err, IfOk, MatchResult, Ok, OnOk};
-ghost use Rattle.sqlite.specs.Files.{over_files};
+ghost use Rattle.std.specs.Prelude.{◌≡◌, Err, IfOk, MatchResult, Ok};
 ghost use Rattle.brk_store_transactions.specs.Audited.{AdoptPost};
-ghost use Rattle.brk_cli_jobs.specs.Files.{HasLastCommitInFile, IsNewConnectionToFile};
 ghost use Rattle.brk_cli_jobs.specs.Opened.{RepresentsRowsOfFile};
-ghost use Rattle.brk_cli_jobs.specs.Opening.{IsAdoptionResult, OpenOrCreatePost, OpenPost};
+ghost use Rattle.brk_cli_jobs.specs.Opening.{AdoptsConnection, AdoptsFile, ClosePost, IsClosed, OpenOrCreatePost, OpenPost};
 
-use crate::examining::may_open_or_create;
-use brk_money::{Condition, Fault, StoreFailed};
+use crate::file_place::FilePlace;
+use brk_money::{Condition, Fault};
 use brk_store::Store;
-use sqlite::{Alter, Connection, File, FileStore};
+use sqlite::{Alter, Connection};
 use std::alloc::Global;
-use std::fs;
-use std::io::ErrorKind;
 
-/// A desk's store in a file, which its connection locks for this program only.
-pub type FileDesk = Store<FileStore<File>>;
-
-fn close_connection(conn: Connection<FileStore<File>>) -> Result<(), StoreFailed>
-    ensures { OnOk result (HasLastCommitInFile conn) }
+/// Closes the file of a desk. Fails with `Store`.
+pub fn close_desk<P: FilePlace>(place: &P, store: Store<P::Storage>) -> Result<(), Fault>
+    ensures { ClosePost P.disconnects store result }
 {
-    match conn.close_files() {
-        Ok(_) => Ok(()),
-        Err((_, store)) => {
-            drop(store.close());
-            Err(StoreFailed)
-        }
-    }
-}
-
-/// Closes the file of a desk. At `Ok`, under the disk assumption, the database file contains the
-/// last commit even without its log, and a crash exposes only this commit. At `StoreFailed` the
-/// file handle is dropped, and a part of the committed data may still be only in the log beside
-/// the file.
-pub fn close_desk_file(store: FileDesk) -> Result<(), StoreFailed>
-    ensures { OnOk result (HasLastCommitInFile store) }
-{
-    close_connection(store.into_conn())
-}
-
-// A missing file becomes a new database. A file that may not be opened, or over which none may be
-// made, is left as it is, with its log.
-fn open_connection(rt: &HostRuntime, path: &str) -> Result<Connection<FileStore<File>>, StoreFailed>
-    ensures { IfOk result IsNewConnectionToFile }
-{
-    if !may_open_or_create(rt, path) {
-        return Err(StoreFailed);
-    }
-    match Connection::open(rt, path) {
-        Ok(conn) => Ok(conn),
-        Err(_) => Err(StoreFailed),
+    match place.disconnect(store.into_conn()) {
+        Ok(()) => Ok(()),
+        Err(_) => Err(Fault::Store),
     }
 }
 
@@ -64,69 +31,83 @@ fn adopt_connection<S: Alter>(
     Store::adopt(alloc, conn)
 }
 
-// Closes the connection if the adoption fails. An error of the close is ignored: the fault of the
-// adoption is the cause.
-fn adopt_file(rt: &HostRuntime, conn: Connection<FileStore<File>>) -> Result<FileDesk, Fault>
-    ensures adopted { IsAdoptionResult conn result }
-    ensures represented { IfOk result (λ store. RepresentsRowsOfFile over_files store) }
+// Returns the fault. An error of the close is ignored: the fault is the cause.
+fn close_after<P: FilePlace>(place: &P, conn: Connection<P::Storage>, fault: Fault) -> Fault
+    ensures closed { IsClosed P.disconnects conn }
+    ensures same { result ≡ fault }
 {
-    match adopt_connection(rt.alloc(), conn) {
+    let _ = place.disconnect(conn);
+    fault
+}
+
+fn adopt_or_close<P: FilePlace>(
+    alloc: Global,
+    place: &P,
+    conn: Connection<P::Storage>,
+) -> Result<Store<P::Storage>, Fault>
+    ensures adopted { AdoptsConnection P.Storage.Store P.disconnects conn result }
+    ensures represented { IfOk result (λ store. RepresentsRowsOfFile P.Storage.Store store) }
+{
+    match adopt_connection(alloc, conn) {
         Ok(store) => Ok(store),
-        Err((conn, fault)) => {
-            let _ = close_connection(conn);
-            Err(fault)
-        }
+        Err((conn, fault)) => Err(close_after(place, conn, fault)),
+    }
+}
+
+fn adopt_file<P: FilePlace>(
+    alloc: Global,
+    place: &P,
+    path: &str,
+) -> Result<Store<P::Storage>, Fault>
+    ensures adopted { AdoptsFile P.Storage.Store P.connects P.disconnects path.now result }
+    ensures represented { IfOk result (λ store. RepresentsRowsOfFile P.Storage.Store store) }
+{
+    match place.connect(path) {
+        Ok(conn) => adopt_or_close(alloc, place, conn),
+        Err(_) => Err(Fault::Store),
     }
 }
 
 /// Opens the desk in the file at `path`, and upgrades a file of an older schema. Creates a desk if
 /// the file is missing or empty or has no table of a desk. Fails with `Damaged` and the first
 /// condition that fails if the file has a table of a desk and does not pass the audit, or with
-/// `Memory` or `Store`; a new desk may then have been created. Fails with `Store`, and changes
-/// nothing, if the file is missing or empty and its log has a commit, or if the file is neither a
-/// database nor what a creation that was stopped leaves.
+/// `Memory` or `Store`; a new desk may then have been created.
 ///
 /// A new desk is closed and opened again, so that its tables are in the file itself, and a file
 /// that then loses its log is never treated as a new one.
-pub fn open_or_create_desk_file(rt: &HostRuntime, path: &str) -> Result<FileDesk, Fault>
-    ensures opened { OpenOrCreatePost result }
-    ensures represented { IfOk result (λ store. RepresentsRowsOfFile over_files store) }
+pub fn open_or_create_desk<P: FilePlace>(
+    alloc: Global,
+    place: &P,
+    path: &str,
+) -> Result<Store<P::Storage>, Fault>
+    ensures opened { OpenOrCreatePost P.Storage.Store P.connects P.disconnects path.now result }
+    ensures represented { IfOk result (λ store. RepresentsRowsOfFile P.Storage.Store store) }
 {
-    let first = open_connection(rt, path)?;
+    let first = place.connect(path)?;
     match Store::create(first) {
         Ok(store) => {
-            close_desk_file(store)?;
-            let conn = open_connection(rt, path)?;
-            adopt_file(rt, conn)
+            close_desk(place, store)?;
+            adopt_file(alloc, place, path)
         }
-        Err((conn, Fault::Damaged(_))) => adopt_file(rt, conn),
-        Err((conn, _)) => {
-            let _ = close_connection(conn);
-            Err(Fault::Store)
-        }
-    }
-}
-
-// Returns false also if the file cannot be examined for another reason than that it is not found.
-fn is_missing_or_empty(rt: &HostRuntime, path: &str) -> bool {
-    match fs::metadata(rt, path) {
-        Ok(found) => found.is_file() && found.len() == 0,
-        Err(error) => error.kind() == ErrorKind::NotFound,
+        Err((conn, Fault::Damaged(_))) => adopt_or_close(alloc, place, conn),
+        Err((conn, Fault::Store)) => Err(close_after(place, conn, Fault::Store)),
+        Err((conn, Fault::Memory)) => Err(close_after(place, conn, Fault::Memory)),
     }
 }
 
 /// Opens the desk in the file at `path`, and upgrades a file of an older schema. Creates no desk.
 /// Fails with `Damaged(Schema)` if the file is missing or empty, with `Damaged` and the first
-/// condition that fails if it does not pass the audit, or with `Memory` or `Store`. Fails with
-/// `Store`, and changes nothing, if the file is neither a database nor what a creation that was
-/// stopped leaves.
-pub fn open_desk_file(rt: &HostRuntime, path: &str) -> Result<FileDesk, Fault>
-    ensures opened { OpenPost result }
-    ensures represented { IfOk result (λ store. RepresentsRowsOfFile over_files store) }
+/// condition that fails if it does not pass the audit, or with `Memory` or `Store`.
+pub fn open_desk<P: FilePlace>(
+    alloc: Global,
+    place: &P,
+    path: &str,
+) -> Result<Store<P::Storage>, Fault>
+    ensures opened { OpenPost P.Storage.Store P.finds_blank P.connects P.disconnects path.now result }
+    ensures represented { IfOk result (λ store. RepresentsRowsOfFile P.Storage.Store store) }
 {
-    if is_missing_or_empty(rt, path) {
+    if place.is_missing_or_empty(path) {
         return Err(Fault::Damaged(Condition::Schema));
     }
-    let conn = open_connection(rt, path)?;
-    adopt_file(rt, conn)
+    adopt_file(alloc, place, path)
 }

@@ -2,6 +2,7 @@
 
 ghost use Rattle.std.specs.Prelude.{◌≡◌};
 ghost use Rattle.brk_cli_jobs.specs.BatchText.{CompletesBatchOfJob, PrintsBatchOfJob};
+ghost use Rattle.brk_cli_jobs.specs.JobText.{PrintsJobAt};
 ghost use Rattle.brk_cli_jobs.specs.Places.{ExecutesJobAt, ExecutesJobInExistingFile, PrintsOkAfterAudit, RunsJob, place_of_job, place_of_optional_path};
 ghost use Rattle.brk_cli_jobs.specs.Requested.{AnswersRequest, WritesHelpText, abstract_place};
 
@@ -135,6 +136,10 @@ pub fn execute_job<S: Alter, F: DeskFiles<Desk = Store<S>>, R: Read + Drop, W: W
     // `Done` after a batch with a file, at a fixed time, means that exactly the text of the batch
     // from any base that the file represented was written.
     ensures completed { CompletesBatchOfJob S.Store F.opens_or_creates F.closes job.now (R.remaining input)
+        (record { input = R.remaining input; before = W.contents output.old.output; after = W.contents output.new.output }) result }
+    // `Done` after a job that reads a file means that exactly the model's text of the job from any
+    // base that the file represented was written. A refusal is the model's, and nothing was written.
+    ensures told { PrintsJobAt S.Store F.opens F.closes job.now (place_of_job job.now)
         (record { input = R.remaining input; before = W.contents output.old.output; after = W.contents output.new.output }) result }
 {
     let ending = execute_job_at_place(rt, files, job, input, output);

@@ -9,6 +9,7 @@ pub mod desk_files;
 mod examining;
 mod explain;
 pub mod file;
+pub mod file_place;
 pub mod jobs;
 pub mod pipe;
 mod reopening;
@@ -16,7 +17,8 @@ mod serve;
 mod statement;
 mod words;
 
-pub use desk_files::{DeskFiles, MachineFiles};
+pub use desk_files::{DeskFiles, MachineFiles, PlaceFiles};
+pub use file_place::{FilePlace, MachinePlace};
 pub use jobs::{execute_job, execute_requested_job};
 pub use pipe::PipeWriter;
 pub use serve::{serve_file_on, serve_on};

@@ -1,0 +1,107 @@
+//! The files of databases, over any place that has them, and those of the machine.
+
+ghost use Rattle.std.specs.Prelude.{ℕ, Bool, List, OnOk, Result};
+ghost use Rattle.sqlite.specs.Held.{Held};
+ghost use Rattle.brk_cli_jobs.specs.Files.{HasLastCommitInFile};
+ghost use Rattle.brk_money.specs.declared.fault.StoreFailed.{StoreFailed};
+
+use crate::examining::may_open_or_create;
+use brk_money::StoreFailed;
+use sqlite::{Alter, Connection, File, FileStore};
+use std::fs;
+use std::io::ErrorKind;
+
+/// A place that has files, each at a path.
+pub trait FilePlace {
+    /// The storage of a database in a file.
+    type Storage: Alter;
+
+    /// Holds if the file at the path may be found missing or empty (true), or neither (false).
+    ghost finds_blank: { List ℕ → Bool → Type 0 };
+
+    /// Holds if opening the file at the path as a database may have this result.
+    ghost connects: { List ℕ → Result (Held Self.Storage) StoreFailed → Type 0 };
+
+    /// Holds if closing the connection may have this result.
+    ghost disconnects: { Held Self.Storage → Result (Unit {0}) StoreFailed → Type 0 };
+
+    /// Returns whether the file at `path` is missing or empty.
+    fn is_missing_or_empty(&self, path: &str) -> bool
+        ensures { finds_blank path.now result };
+
+    /// Opens the file at `path` as a database, which is new if the file is missing or empty.
+    fn connect(&self, path: &str) -> Result<Connection<Self::Storage>, StoreFailed>
+        ensures { connects path.now result };
+
+    fn disconnect(&self, conn: Connection<Self::Storage>) -> Result<(), StoreFailed>
+        ensures { disconnects conn result };
+}
+
+/// The files of the machine.
+#[derive(Clone, Copy)]
+pub struct MachinePlace<'a> {
+    rt: &'a HostRuntime,
+}
+
+impl<'a> MachinePlace<'a> {
+    pub fn new(rt: &'a HostRuntime) -> MachinePlace<'a> {
+        MachinePlace { rt }
+    }
+}
+
+fn close_connection(conn: Connection<FileStore<File>>) -> Result<(), StoreFailed>
+    ensures { OnOk result (HasLastCommitInFile conn) }
+{
+    match conn.close_files() {
+        Ok(_) => Ok(()),
+        Err((_, store)) => {
+            drop(store.close());
+            Err(StoreFailed)
+        }
+    }
+}
+
+/// No contract of a file names its path, or says that it is missing or empty.
+impl FilePlace for MachinePlace<'_> {
+    ghost use Rattle.std.specs.Prelude.{IfOk};
+    ghost use Rattle.brk_cli_jobs.specs.Files.{IsNewConnectionToFile};
+
+    type Storage = FileStore<File>;
+
+    ghost finds_blank = { λ _ _. Unit {0} };
+
+    ghost connects = { λ _ result. IfOk result IsNewConnectionToFile };
+
+    ghost disconnects = { λ conn result. OnOk result (HasLastCommitInFile conn) };
+
+    /// Returns false also if the file cannot be examined for another reason than that it is not
+    /// found.
+    fn is_missing_or_empty(&self, path: &str) -> bool {
+        match fs::metadata(self.rt, path) {
+            Ok(found) => found.is_file() && found.len() == 0,
+            Err(error) => error.kind() == ErrorKind::NotFound,
+        }
+    }
+
+    /// Fails, and leaves the file and its log as they are, if the file is neither a database nor
+    /// what a creation that was stopped leaves, or if none was made yet and its log has a commit.
+    fn connect(&self, path: &str) -> Result<Connection<FileStore<File>>, StoreFailed> {
+        if !may_open_or_create(self.rt, path) {
+            return Err(StoreFailed);
+        }
+        match Connection::open(self.rt, path) {
+            Ok(conn) => Ok(conn),
+            Err(_) => Err(StoreFailed),
+        }
+    }
+
+    /// Closes the file of a database. At `Ok`, under the disk assumption, the database file
+    /// contains the last commit even without its log, and a crash exposes only this commit. At
+    /// `StoreFailed` the file handle is dropped, and a part of the committed data may still be only
+    /// in the log beside the file.
+    fn disconnect(&self, conn: Connection<FileStore<File>>) -> Result<(), StoreFailed>
+        ensures { OnOk result (HasLastCommitInFile conn) }
+    {
+        close_connection(conn)
+    }
+}
