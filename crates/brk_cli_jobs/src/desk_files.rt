@@ -7,6 +7,7 @@ use crate::file::{close_desk, open_desk, open_or_create_desk};
 use crate::file_place::{FilePlace, MachinePlace};
 use brk_money::Fault;
 use brk_store::Store;
+use sqlite::{Alter, Connection};
 use std::alloc::Global;
 
 /// A place that has desks in files, each at a path.
@@ -54,30 +55,30 @@ impl<'a> PlaceFiles<MachinePlace<'a>> {
     }
 }
 
-impl<P: FilePlace> DeskFiles for PlaceFiles<P> {
+impl<S: Alter, P: FilePlace<Open = Connection<S>>> DeskFiles for PlaceFiles<P> {
     ghost use Rattle.std.specs.Prelude.{IfOk};
     ghost use Rattle.brk_cli_jobs.specs.Opened.{RepresentsRowsOfFile};
     ghost use Rattle.brk_cli_jobs.specs.Opening.{ClosePost, OpenOrCreatePost, OpenPost};
 
-    type Desk = Store<P::Storage>;
+    type Desk = Store<S>;
 
-    ghost opens_or_creates = { λ path result. OpenOrCreatePost P.Storage.Store P.connects P.disconnects path result
-        × IfOk result (λ store. RepresentsRowsOfFile P.Storage.Store store) };
+    ghost opens_or_creates = { λ path result. OpenOrCreatePost S.Store P.connects P.disconnects path result
+        × IfOk result (λ store. RepresentsRowsOfFile S.Store store) };
 
-    ghost opens = { λ path result. OpenPost P.Storage.Store P.finds_blank P.connects P.disconnects path result
-        × IfOk result (λ store. RepresentsRowsOfFile P.Storage.Store store) };
+    ghost opens = { λ path result. OpenPost S.Store P.finds_blank P.connects P.disconnects path result
+        × IfOk result (λ store. RepresentsRowsOfFile S.Store store) };
 
     ghost closes = { λ store result. ClosePost P.disconnects store result };
 
-    fn open_or_create(&self, path: &str) -> Result<Store<P::Storage>, Fault> {
+    fn open_or_create(&self, path: &str) -> Result<Store<S>, Fault> {
         open_or_create_desk(self.alloc, &self.place, path)
     }
 
-    fn open(&self, path: &str) -> Result<Store<P::Storage>, Fault> {
+    fn open(&self, path: &str) -> Result<Store<S>, Fault> {
         open_desk(self.alloc, &self.place, path)
     }
 
-    fn close(&self, store: Store<P::Storage>) -> Result<(), Fault> {
+    fn close(&self, store: Store<S>) -> Result<(), Fault> {
         close_desk(&self.place, store)
     }
 }

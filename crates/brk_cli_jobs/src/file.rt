@@ -12,7 +12,10 @@ use sqlite::{Alter, Connection};
 use std::alloc::Global;
 
 /// Closes the file of a desk. Fails with `Store`.
-pub fn close_desk<P: FilePlace>(place: &P, store: Store<P::Storage>) -> Result<(), Fault>
+pub fn close_desk<S: Alter, P: FilePlace<Open = Connection<S>>>(
+    place: &P,
+    store: Store<S>,
+) -> Result<(), Fault>
     ensures { ClosePost P.disconnects store result }
 {
     match place.disconnect(store.into_conn()) {
@@ -32,7 +35,11 @@ fn adopt_connection<S: Alter>(
 }
 
 // Returns the fault. An error of the close is ignored: the fault is the cause.
-fn close_after<P: FilePlace>(place: &P, conn: Connection<P::Storage>, fault: Fault) -> Fault
+fn close_after<S: Alter, P: FilePlace<Open = Connection<S>>>(
+    place: &P,
+    conn: Connection<S>,
+    fault: Fault,
+) -> Fault
     ensures closed { IsClosed P.disconnects conn }
     ensures same { result ≡ fault }
 {
@@ -40,13 +47,13 @@ fn close_after<P: FilePlace>(place: &P, conn: Connection<P::Storage>, fault: Fau
     fault
 }
 
-fn adopt_or_close<P: FilePlace>(
+fn adopt_or_close<S: Alter, P: FilePlace<Open = Connection<S>>>(
     alloc: Global,
     place: &P,
-    conn: Connection<P::Storage>,
-) -> Result<Store<P::Storage>, Fault>
-    ensures adopted { AdoptsConnection P.Storage.Store P.disconnects conn result }
-    ensures represented { IfOk result (λ store. RepresentsRowsOfFile P.Storage.Store store) }
+    conn: Connection<S>,
+) -> Result<Store<S>, Fault>
+    ensures adopted { AdoptsConnection S.Store P.disconnects conn result }
+    ensures represented { IfOk result (λ store. RepresentsRowsOfFile S.Store store) }
 {
     match adopt_connection(alloc, conn) {
         Ok(store) => Ok(store),
@@ -54,13 +61,13 @@ fn adopt_or_close<P: FilePlace>(
     }
 }
 
-fn adopt_file<P: FilePlace>(
+fn adopt_file<S: Alter, P: FilePlace<Open = Connection<S>>>(
     alloc: Global,
     place: &P,
     path: &str,
-) -> Result<Store<P::Storage>, Fault>
-    ensures adopted { AdoptsFile P.Storage.Store P.connects P.disconnects path.now result }
-    ensures represented { IfOk result (λ store. RepresentsRowsOfFile P.Storage.Store store) }
+) -> Result<Store<S>, Fault>
+    ensures adopted { AdoptsFile S.Store P.connects P.disconnects path.now result }
+    ensures represented { IfOk result (λ store. RepresentsRowsOfFile S.Store store) }
 {
     match place.connect(path) {
         Ok(conn) => adopt_or_close(alloc, place, conn),
@@ -75,13 +82,13 @@ fn adopt_file<P: FilePlace>(
 ///
 /// A new desk is closed and opened again, so that its tables are in the file itself, and a file
 /// that then loses its log is never treated as a new one.
-pub fn open_or_create_desk<P: FilePlace>(
+pub fn open_or_create_desk<S: Alter, P: FilePlace<Open = Connection<S>>>(
     alloc: Global,
     place: &P,
     path: &str,
-) -> Result<Store<P::Storage>, Fault>
-    ensures opened { OpenOrCreatePost P.Storage.Store P.connects P.disconnects path.now result }
-    ensures represented { IfOk result (λ store. RepresentsRowsOfFile P.Storage.Store store) }
+) -> Result<Store<S>, Fault>
+    ensures opened { OpenOrCreatePost S.Store P.connects P.disconnects path.now result }
+    ensures represented { IfOk result (λ store. RepresentsRowsOfFile S.Store store) }
 {
     let first = place.connect(path)?;
     match Store::create(first) {
@@ -98,13 +105,13 @@ pub fn open_or_create_desk<P: FilePlace>(
 /// Opens the desk in the file at `path`, and upgrades a file of an older schema. Creates no desk.
 /// Fails with `Damaged(Schema)` if the file is missing or empty, with `Damaged` and the first
 /// condition that fails if it does not pass the audit, or with `Memory` or `Store`.
-pub fn open_desk<P: FilePlace>(
+pub fn open_desk<S: Alter, P: FilePlace<Open = Connection<S>>>(
     alloc: Global,
     place: &P,
     path: &str,
-) -> Result<Store<P::Storage>, Fault>
-    ensures opened { OpenPost P.Storage.Store P.finds_blank P.connects P.disconnects path.now result }
-    ensures represented { IfOk result (λ store. RepresentsRowsOfFile P.Storage.Store store) }
+) -> Result<Store<S>, Fault>
+    ensures opened { OpenPost S.Store P.finds_blank P.connects P.disconnects path.now result }
+    ensures represented { IfOk result (λ store. RepresentsRowsOfFile S.Store store) }
 {
     if place.is_missing_or_empty(path) {
         return Err(Fault::Damaged(Condition::Schema));

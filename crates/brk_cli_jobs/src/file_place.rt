@@ -1,39 +1,38 @@
 //! The files of databases, over any place that has them, and those of the machine.
 
 ghost use Rattle.std.specs.Prelude.{ℕ, Bool, List, OnOk, Result};
-ghost use Rattle.sqlite.specs.Held.{Held};
 ghost use Rattle.brk_cli_jobs.specs.Files.{HasLastCommitInFile};
 ghost use Rattle.brk_money.specs.declared.fault.StoreFailed.{StoreFailed};
 
 use crate::examining::may_open_or_create;
 use brk_money::StoreFailed;
-use sqlite::{Alter, Connection, File, FileStore};
+use sqlite::{Connection, File, FileStore};
 use std::fs;
 use std::io::ErrorKind;
 
 /// A place that has files, each at a path.
 pub trait FilePlace {
-    /// The storage of a database in a file.
-    type Storage: Alter;
+    /// A connection to the database in an open file.
+    type Open;
 
     /// Holds if the file at the path may be found missing or empty (true), or neither (false).
     ghost finds_blank: { List ℕ → Bool → Type 0 };
 
     /// Holds if opening the file at the path as a database may have this result.
-    ghost connects: { List ℕ → Result (Held Self.Storage) StoreFailed → Type 0 };
+    ghost connects: { List ℕ → Result Self.Open StoreFailed → Type 0 };
 
     /// Holds if closing the connection may have this result.
-    ghost disconnects: { Held Self.Storage → Result (Unit {0}) StoreFailed → Type 0 };
+    ghost disconnects: { Self.Open → Result (Unit {0}) StoreFailed → Type 0 };
 
     /// Returns whether the file at `path` is missing or empty.
     fn is_missing_or_empty(&self, path: &str) -> bool
         ensures { finds_blank path.now result };
 
     /// Opens the file at `path` as a database, which is new if the file is missing or empty.
-    fn connect(&self, path: &str) -> Result<Connection<Self::Storage>, StoreFailed>
+    fn connect(&self, path: &str) -> Result<Self::Open, StoreFailed>
         ensures { connects path.now result };
 
-    fn disconnect(&self, conn: Connection<Self::Storage>) -> Result<(), StoreFailed>
+    fn disconnect(&self, conn: Self::Open) -> Result<(), StoreFailed>
         ensures { disconnects conn result };
 }
 
@@ -66,7 +65,7 @@ impl FilePlace for MachinePlace<'_> {
     ghost use Rattle.std.specs.Prelude.{IfOk};
     ghost use Rattle.brk_cli_jobs.specs.Files.{IsNewConnectionToFile};
 
-    type Storage = FileStore<File>;
+    type Open = Connection<FileStore<File>>;
 
     ghost finds_blank = { λ _ _. Unit {0} };
 
