@@ -5,8 +5,8 @@ use Rattle.sqlite_trees.specs.declared.store.Store.{Ghosts}
 use Rattle.sqlite.specs.Held.{Held, state}
 use Rattle.sqlite.specs.State.{HasCleanDisk}
 use Rattle.brk_model.specs.Tables.{Tables}
-use Rattle.brk_store_lots.specs.Ages.{in_closing_order}
-use Rattle.brk_store_lots.specs.declared.age.LotAge.{LotAge}
+use Rattle.brk_store_index.specs.Ages.{in_closing_order}
+use Rattle.brk_store_index.specs.declared.age.LotAge.{LotAge}
 use Rattle.brk_store_transactions.specs.Holds.{HoldsRows, ReadPost}
 use Rattle.brk_store.specs.ReadSequences.{IsUnchangedByReads, ReadSequencePost, disk_was_clean_before_reads, joined_reads_change_nothing, single_read_changes_nothing}
 

@@ -11,10 +11,10 @@ use Rattle.brk_ref.specs.Rows.{abstract_holding_row, lots_oldest_first}
 use Rattle.brk_ref.specs.declared.holding_row.HoldingRow as row
 use Rattle.brk_tables_trading.specs.Pages.{page_after_skipped}
 use Rattle.brk_tables.proofs.OneTables.{one_tables}
-use Rattle.brk_store_lots.specs.declared.age.LotAge.{LotAge}
-use Rattle.brk_store_lots.specs.declared.index.LotIndex.{LotIndex}
-use Rattle.brk_store_lots.specs.Ages.{IsIndexOf, in_closing_order, lots_at}
-use Rattle.brk_store_lots.proofs.Ordered.{page_found}
+use Rattle.brk_store_index.specs.declared.age.LotAge.{LotAge}
+use Rattle.brk_store_index.specs.declared.index.LotIndex.{LotIndex}
+use Rattle.brk_store_index.specs.Ages.{IsIndexOf, in_closing_order, lots_at}
+use Rattle.brk_store_index.proofs.Ordered.{page_found}
 use Rattle.brk_store_transactions.specs.Holds.{HoldsRows}
 use Rattle.brk_store.specs.Indexed.{HasRowOfEachAge, IndexIsTrue}
 use Rattle.brk_store.specs.Pages.{lot_rows_in_closing_order}

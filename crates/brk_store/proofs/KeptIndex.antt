@@ -14,7 +14,7 @@ use Rattle.brk_store_transactions.specs.Audited.{AdoptPost}
 use Rattle.brk_store_transactions.specs.Holds.{ApplyPost, WasOpenAndIsUnchanged}
 use Rattle.brk_store.specs.Indexed.{IsIndexOfTables, IndexIsTrue}
 use Rattle.brk_store_transactions.proofs.Ending.{is_read, with_transaction_open}
-use Rattle.brk_store_lots.specs.declared.index.LotIndex.{LotIndex}
+use Rattle.brk_store_index.specs.declared.index.LotIndex.{LotIndex}
 
 module _ {S : Type 0} (g : Ghosts S) (old new : Held S) (known : Bool) (index : Option LotIndex) where
   -- what is so of a database is so where it is unchanged

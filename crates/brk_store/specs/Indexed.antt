@@ -9,9 +9,9 @@ use Rattle.brk_ref.specs.Rows.{abstract_holding_row}
 use Rattle.brk_ref.specs.declared.holding_row.HoldingRow as row
 use Rattle.brk_tables_trading.specs.Pages.{page_size}
 use Rattle.brk_tables_schema.specs.Made.{HasDeskTables}
-use Rattle.brk_store_lots.specs.Ages.{IsIndexOf, in_closing_order, lot_of_age}
-use Rattle.brk_store_lots.specs.declared.age.LotAge.{LotAge}
-use Rattle.brk_store_lots.specs.declared.index.LotIndex.{LotIndex}
+use Rattle.brk_store_index.specs.Ages.{IsIndexOf, in_closing_order, lot_of_age}
+use Rattle.brk_store_index.specs.declared.age.LotAge.{LotAge}
+use Rattle.brk_store_index.specs.declared.index.LotIndex.{LotIndex}
 
 -- The index, if there is one, has exactly the lots in the rows of HOLDING of the tables `t`.
 abbrev pub IsIndexOfTables : Option LotIndex → Tables → Type 0

@@ -3,7 +3,7 @@
 
 use crate::indexed::index_after_changes;
 use brk_money::Fault;
-use brk_store_lots::LotIndex;
+use brk_store_index::LotIndex;
 use brk_store_transactions::{apply_changes, create_tables_atomically};
 use brk_trade_rows::Change;
 use sqlite::{Alter, Connection};

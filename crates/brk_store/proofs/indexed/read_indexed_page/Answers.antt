@@ -1,6 +1,6 @@
 use Rattle.std.proofs.Common.{◌≡◌, ◌∙◌, [], Some, ap, map, sym}
 use Rattle.brk_ref.specs.Rows.{abstract_holding_row}
-use Rattle.brk_store_lots.specs.Ages.{lot_of_age}
+use Rattle.brk_store_index.specs.Ages.{lot_of_age}
 use Rattle.brk_model.specs.Tables.{Tables}
 use Rattle.brk_store.specs.Indexed.{HasRowOfEachAge}
 use Rattle.brk_store.proofs.ByAges.{no_ages, read_then}

@@ -3,8 +3,8 @@ use Rattle.std.specs.Global.{Vec}
 use Rattle.brk_money.specs.declared.fault.CallFault.TheVariants.{Memory}
 use Rattle.brk_ref.specs.Rows.{abstract_holding_row}
 use Rattle.brk_ref.specs.declared.holding_row.HoldingRow as row
-use Rattle.brk_store_lots.specs.Ages.{IsIndexOf}
-use Rattle.brk_store_lots.specs.declared.index.LotIndex.{LotIndex}
+use Rattle.brk_store_index.specs.Ages.{IsIndexOf}
+use Rattle.brk_store_index.specs.declared.index.LotIndex.{LotIndex}
 use Rattle.brk_model.specs.Tables.{Tables}
 use Rattle.brk_store.proofs.ReadResults.{decided}
 use Rattle.brk_store.proofs.indexed.read_lot_index.Goals as goal

@@ -2,7 +2,7 @@ use Rattle.std.proofs.Common.{◌≡◌, ◌∙◌, ◌+◌, ◌∷◌, ◌++◌
 use Rattle.std.proofs.lemmas.Result.{err_from_is_err_and}
 use Rattle.brk_money.specs.declared.fault.CallFault.{CallFault}
 use Rattle.brk_ref.specs.Rows.{abstract_holding_row}
-use Rattle.brk_store_lots.specs.Ages.{in_closing_order, lot_of_age}
+use Rattle.brk_store_index.specs.Ages.{in_closing_order, lot_of_age}
 use Rattle.brk_model.specs.Tables.{Tables}
 use Rattle.brk_store.specs.Indexed.{HasRowOfEachAge}
 use Rattle.brk_store.proofs.ByAges.{no_age, one_age, row_read}

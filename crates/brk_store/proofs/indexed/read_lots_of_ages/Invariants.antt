@@ -1,7 +1,7 @@
 use Rattle.std.proofs.Common.{◌≡◌, ◌≤◌, Ok, Some, drop, false, map, take}
 use Rattle.brk_money.specs.declared.fault.CallFault.{CallFault}
 use Rattle.brk_ref.specs.Rows.{abstract_holding_row}
-use Rattle.brk_store_lots.specs.Ages.{in_closing_order, lot_of_age}
+use Rattle.brk_store_index.specs.Ages.{in_closing_order, lot_of_age}
 use Rattle.brk_store.specs.ReadSequences.{ReadSequencePost}
 use Rattle.brk_store.proofs.indexed.read_lots_of_ages.Given as goal
 

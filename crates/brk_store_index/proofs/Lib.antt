@@ -1,0 +1,10 @@
+pub mod Elements
+pub mod Rising
+pub mod Placing
+pub mod Places
+pub mod Trading
+pub mod Aged
+pub mod Changing
+pub mod Ordered
+pub mod Spans
+pub mod Lots
