@@ -1,8 +1,8 @@
 -- Ages of rows that are not placed: of accounts and of changes of lots.
-use Rattle.std.proofs.Common.{◌≡◌, inl, inr, ◌∙◌, ◌==◌, ◌+◌, ◌<◌, ℕ, Bool, true, false, cond, List, [], ◌∷◌, ◌++◌, map, filter, take, length, get_or, refl, sym, ap, subst}
+use Rattle.std.proofs.Common.{◌≡◌, inl, inr, ◌∙◌, ◌+◌, ◌<◌, ℕ, Bool, true, false, cond, List, [], ◌∷◌, ◌++◌, map, filter, take, length, get_or, refl, sym, ap, subst}
 use Rattle.std.proofs.lemmas.List.{take_more, map-append}
 use Rattle.brk_store_index.specs.declared.age.RowAge.{RowAge}
-use Rattle.brk_store_index.specs.Ages.{AreAgesOf, Has, InsertsAge, InsertsAgeIf}
+use Rattle.brk_store_index.specs.Ages.{AreAgesOf, Has, InsertsAgeIf}
 use Rattle.brk_store_index.proofs.Elements.{behind, front, has_filtered, has_kept, has_mapped, has_pushed, mapped_has, pushed_has}
 
 pub no_ages : (ages : List RowAge) → ages ≡ [] → AreAgesOf ages []

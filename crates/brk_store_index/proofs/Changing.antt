@@ -1,5 +1,5 @@
 -- An index after a row change.
-use Rattle.std.proofs.Common.{◌≡◌, inl, inr, ◌∙◌, ◌+◌, ◌<◌, ◌==◌, ◌&&◌, ℕ, ℤ, Bool, true, false, not, cond, List, [], ◌∷◌, Some, map, filter, take, length, get_or, Result, Ok, Err, OnOk, refl, sym, ap, subst}
+use Rattle.std.proofs.Common.{◌≡◌, ◌∙◌, ◌+◌, ◌<◌, ◌==◌, ℕ, ℤ, Bool, true, false, not, cond, List, ◌∷◌, Some, map, filter, take, length, get_or, Result, Ok, Err, OnOk, refl, sym, ap, subst}
 use Rattle.std.specs.Prelude.{bytes_eq, string_bytes}
 use Rattle.std.proofs.lemmas.List.Sums.{fold_more}
 use Rattle.brk_money.specs.Kinds.{is_same_trade_status}
@@ -274,14 +274,14 @@ trade_added_if old trades row (Err e) h = tt
 pub status_set_if : {E : Type 0} (old : RowIndex) (trades : TradeGroups) (id : ℕ) (status : Status) (stamp : ℕ) (is_submitted : Bool) → is_submitted ≡ is_same_trade_status status Submitted
     → (r : Result (Unit {0}) E)
     → OnOk r ((set : TradeRow → TradeRow) → SetsStatus is_submitted stamp set → (rows : List TradeRow) → IsIndexOfTrades old.trades rows
-        → IsIndexOfTrades trades (update_where (λ (x : TradeRow). x.id == id) set rows))
+    → IsIndexOfTrades trades (update_where (λ (x : TradeRow). x.id == id) set rows))
     → OnOk r ((t : Tables) → IsIndexOf old t → IsIndexOf (record old { trades = trades }) (tables_after_change (SetStatus id status stamp) t))
 status_set_if old trades id status stamp is_submitted so (Ok v) h = λ t is. status_is_set old t is trades id status stamp is_submitted so h
 status_set_if old trades id status stamp is_submitted so (Err e) h = tt
 
 pub trade_completed_if : {E : Type 0} (old : RowIndex) (trades : TradeGroups) (id stamp price commission tax : ℕ) (r : Result (Unit {0}) E)
     → OnOk r ((set : TradeRow → TradeRow) → SetsStatus false stamp set → (rows : List TradeRow) → IsIndexOfTrades old.trades rows
-        → IsIndexOfTrades trades (update_where (λ (x : TradeRow). x.id == id) set rows))
+    → IsIndexOfTrades trades (update_where (λ (x : TradeRow). x.id == id) set rows))
     → OnOk r ((t : Tables) → IsIndexOf old t → IsIndexOf (record old { trades = trades }) (tables_after_change (CompleteTrade id stamp price commission tax) t))
 trade_completed_if old trades id stamp price commission tax (Ok v) h = λ t is. trade_is_completed old t is trades id stamp price commission tax h
 trade_completed_if old trades id stamp price commission tax (Err e) h = tt

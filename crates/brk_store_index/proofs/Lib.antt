@@ -7,4 +7,5 @@ pub mod Aged
 pub mod Changing
 pub mod Ordered
 pub mod Spans
-pub mod Lots
+pub mod PositionLots
+pub mod TradeLists

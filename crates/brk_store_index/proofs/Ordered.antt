@@ -1,16 +1,10 @@
 -- The rows of a group, by the ages that an index has and by the table.
-use Rattle.std.proofs.Common.{◌≡◌, inl, inr, ◌∙◌, ◌==◌, ◌&&◌, ◌||◌, ℕ, Bool, true, false, not, cond, List, [], ◌∷◌, ◌++◌, Option, Some, None, map, filter, find, take, drop, reverse, refl, sym, ap, ap₂, subst, arith, nat_lt, eq-eqb, eqb-true}
-use Rattle.std.specs.Prelude.{bytes_eq}
+use Rattle.std.proofs.Common.{◌≡◌, inl, inr, ◌∙◌, ◌==◌, ◌&&◌, ◌||◌, ℕ, Bool, true, false, cond, List, [], ◌∷◌, ◌++◌, Option, Some, None, map, filter, find, take, drop, reverse, refl, sym, ap, ap₂, subst, arith, nat_lt, eq-eqb}
 use Rattle.std.specs.List.{AllByRecursion}
 use Rattle.std.proofs.lemmas.Bool.Decides.{nat_tests}
 use Rattle.std.proofs.lemmas.List.{drop-map, map-append, take-map}
 use mathlib.Core.List.{reverse-cons}
-use Rattle.brk_money.specs.Spelling.{Text}
-use Rattle.brk_model.specs.Joins.{trade_rows_oldest_first, trade_rows_recent_first}
-use Rattle.brk_model.specs.Keys.{is_row_key_less}
-use Rattle.brk_model.specs.Lists.{insert_by, is_pair_less, sort_by}
-use Rattle.brk_model.specs.Tables.{HoldingRow, TradeRow}
-use Rattle.brk_ref.specs.Rows.{lot_age_key, lots_oldest_first}
+use Rattle.brk_model.specs.Lists.{insert_by, sort_by}
 use Rattle.brk_store_index.specs.declared.age.RowAge.{RowAge}
 use Rattle.brk_store_index.specs.Ages.{AreAgesOf, Has, IsRising, in_order, is_older}
 use Rattle.brk_store_index.specs.Index.{row_of_age, value_if}
@@ -199,11 +193,11 @@ module _ {Row : Type 0} (id_of stamp_of : Row → ℕ) where
     mapped_sorted xs s.1,
   )
 
-  onward : (x y z : Row) → is_row_older x y ≡ true → is_row_older y z ≡ true → is_row_older x z ≡ true
+  pub onward : (x y z : Row) → is_row_older x y ≡ true → is_row_older y z ≡ true → is_row_older x z ≡ true
   onward x y z = older_then (row_age x) (row_age y) (row_age z)
 
   -- of two rows with other ids one is older
-  total : (x y : Row) → (id_of x == id_of y) ≡ false → is_row_older y x ≡ false → is_row_older x y ≡ true
+  pub total : (x y : Row) → (id_of x == id_of y) ≡ false → is_row_older y x ≡ false → is_row_older x y ≡ true
   total x y apart k = turn_numbers (stamp_of x) (id_of x) (stamp_of y) (id_of y) apart k
 
   turned : (a b : ℕ) → (a == b) ≡ false → (b == a) ≡ false

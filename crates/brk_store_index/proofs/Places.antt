@@ -2,7 +2,7 @@
 use Rattle.std.proofs.Common.{◌≡◌, ◌⊎◌, inl, inr, ◌∙◌, ◌==◌, ℕ, Bool, true, false, not, cond, List, [], ◌∷◌, Option, Some, None, filter, map, refl, sym, ap, ap₂, subst, eq-eqb, eqb-true}
 use Rattle.brk_model.specs.Lists.{update_where}
 use Rattle.brk_store_index.specs.declared.age.RowAge.{RowAge}
-use Rattle.brk_store_index.specs.Ages.{AreAgesOf, Has, InsertsAge, InsertsAgeIf, RemovesAge, RemovesAgeIf}
+use Rattle.brk_store_index.specs.Ages.{AreAgesOf, Has, InsertsAgeIf, RemovesAgeIf}
 use Rattle.brk_store_index.specs.Parts.{ArePlacesOf, FollowPlaces}
 use Rattle.brk_store_index.proofs.Elements.{has_filtered, has_kept, has_mapped, mapped_has, true_is_false}
 use Rattle.brk_store_index.proofs.Rising.{age}

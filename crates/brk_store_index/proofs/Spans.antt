@@ -1,36 +1,34 @@
 -- The rows of a group whose stamps are in a span.
-use Rattle.std.proofs.Common.{◌≡◌, inl, inr, ◌∙◌, ◌==◌, ◌&&◌, ◌||◌, ◌+◌, ℕ, zero, suc, Bool, true, false, not, cond, List, [], ◌∷◌, ◌++◌, map, filter, take, drop, refl, sym, ap, ap₂, subst, arith, nat_lt}
+use Rattle.std.proofs.Common.{◌≡◌, ◌∙◌, ◌&&◌, ℕ, zero, suc, Bool, true, false, cond, List, [], ◌∷◌, map, filter, take, drop, refl, sym, ap, subst, arith}
 use Rattle.std.specs.Prelude.{nat_le}
 use Rattle.std.specs.List.{AllByRecursion}
 use Rattle.std.proofs.lemmas.Bool.Decides.{nat_tests}
 use Rattle.std.proofs.lemmas.List.{drop-map, take-map}
 use Rattle.brk_model.specs.Lists.{sort_by}
-use Rattle.brk_model.specs.Tables.{TradeRow}
-use Rattle.brk_ref.specs.Rows.{lot_age_key, lots_oldest_first}
 use Rattle.brk_store_index.specs.declared.age.RowAge.{RowAge}
-use Rattle.brk_store_index.specs.Ages.{AreAgesOf, Has, IsPlaceOfStamp, is_before}
+use Rattle.brk_store_index.specs.Ages.{AreAgesOf, IsPlaceOfStamp, is_before}
 use Rattle.brk_store_index.proofs.Elements.{has_filtered, has_kept}
 use Rattle.brk_store_index.proofs.Ordered.{RisesBy, Sorted, ages_are, all_of, each, filtered_rises, has_sorted, is_row_older, onward, row_age, rows_sorted, same_sorted, sorted_has, total}
 use Rattle.brk_store_index.proofs.Rising.{never_older}
 
 -- ---- lists
 
+nothing_dropped : {X : Type 0} (m : ℕ) → drop {A = X} m [] ≡ []
+nothing_dropped zero = refl
+nothing_dropped (suc m) = refl
+
+nothing_taken : {X : Type 0} (m : ℕ) → take {A = X} m [] ≡ []
+nothing_taken zero = refl
+nothing_taken (suc m) = refl
+
 -- a list that a test cuts in two
 kept_behind : {X : Type 0} (p : X → Bool) (n : ℕ) (xs : List X) → AllByRecursion (λ x. p x ≡ false) (take n xs) → AllByRecursion (λ x. p x ≡ true) (drop n xs) → drop n xs ≡ filter p xs
-kept_behind p n [] low high = none n
-  where
-    none : (m : ℕ) → drop m [] ≡ []
-    none zero = refl
-    none (suc m) = refl
+kept_behind p n [] low high = nothing_dropped n
 kept_behind p zero (x ∷ xs) low high = sym (ap (λ b. cond b (x ∷ filter p xs) (filter p xs)) high.0 ∙ ap (λ l. x ∷ l) (sym (kept_behind p zero xs tt high.1)))
 kept_behind p (suc n) (x ∷ xs) low high = kept_behind p n xs low.1 high ∙ sym (ap (λ b. cond b (x ∷ filter p xs) (filter p xs)) low.0)
 
 kept_before : {X : Type 0} (p : X → Bool) (n : ℕ) (xs : List X) → AllByRecursion (λ x. p x ≡ true) (take n xs) → AllByRecursion (λ x. p x ≡ false) (drop n xs) → take n xs ≡ filter p xs
-kept_before p n [] low high = none n
-  where
-    none : (m : ℕ) → take m [] ≡ []
-    none zero = refl
-    none (suc m) = refl
+kept_before p n [] low high = nothing_taken n
 kept_before p zero (x ∷ xs) low high = kept_before p zero xs tt high.1 ∙ sym (ap (λ b. cond b (x ∷ filter p xs) (filter p xs)) high.0)
 kept_before p (suc n) (x ∷ xs) low high = ap (λ l. x ∷ l) (kept_before p n xs low.1 high) ∙ sym (ap (λ b. cond b (x ∷ filter p xs) (filter p xs)) low.0)
 
@@ -135,8 +133,8 @@ module _ {Row : Type 0} (id_of stamp_of : Row → ℕ) where
     pub rows_between : (first last k j : ℕ) → IsPlaceOfStamp ages first false k → IsPlaceOfStamp ages last true j
         → drop k (take j (sort_by (is_row_older id_of stamp_of) rows)) ≡ sort_by (is_row_older id_of stamp_of) (filter (λ r. nat_le first (stamp_of r)) (filter (λ r. nat_le (stamp_of r) last) rows))
     rows_between first last k j from until =
-        let early = λ r. nat_le (stamp_of r) last in
-        let late = λ r. nat_le first (stamp_of r) in
+        let early : Row → Bool = λ r. nat_le (stamp_of r) last in
+        let late : Row → Bool = λ r. nat_le first (stamp_of r) in
         let until_last : take j sorted ≡ filter early sorted =
         kept_before early j sorted
         (all_changed (λ r. is_before true (stamp_of r) last ≡ true) (λ r. early r ≡ true) (λ r p. at_most (stamp_of r) last p) (take j sorted) (before_place true last j until))

@@ -1,5 +1,5 @@
 -- The trades of an index after one was added or its status set.
-use Rattle.std.proofs.Common.{◌≡◌, ◌==◌, ◌∙◌, ℕ, Bool, List, [], ◌∷◌, Some, None, ap, subst, sym}
+use Rattle.std.proofs.Common.{◌≡◌, ◌==◌, ◌∙◌, ℕ, Bool, List, ◌∷◌, None, ap, subst, sym}
 use Rattle.std.specs.Prelude.{bytes_eq}
 use Rattle.brk_money.specs.Spelling.{Text}
 use Rattle.brk_model.specs.Lists.{update_where}
@@ -9,7 +9,7 @@ use Rattle.brk_store_index.specs.Groups.{ages_of_number, ages_of_position}
 use Rattle.brk_store_index.specs.Parts.{ArePlacesOfTrades, FollowPlaces, IsIndexOfTrades, PutsTrade, SetsStatus, TakesPlace, TakesTrade, place_of_trade, trade_places}
 use Rattle.brk_store_index.specs.declared.trades.TradeGroups.{TradeGroups}
 use Rattle.brk_store_index.specs.declared.trades.TradePlace.{TradePlace}
-use Rattle.brk_store_index.proofs.Places.{follow_same, follow_with, follow_without, no_place, not_taken, places_equal, places_not_updated, places_same, places_updated, places_with}
+use Rattle.brk_store_index.proofs.Places.{follow_same, follow_with, follow_without, no_place, places_equal, places_not_updated, places_same, places_updated, places_with}
 use Rattle.brk_store_index.proofs.Placing.{put_over}
 
 -- the groups of the trades, without the rows

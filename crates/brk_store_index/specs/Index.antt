@@ -6,7 +6,7 @@ use Rattle.brk_money.specs.Spelling.{Text}
 use Rattle.brk_money.specs.declared.status.Status.TheVariants.{Submitted}
 use Rattle.brk_model.specs.Tables.{AccountRow, HoldingHistoryRow, HoldingRow, Tables, TradeRow}
 use Rattle.brk_store_index.specs.Ages.{AreAgesOf}
-use Rattle.brk_store_index.specs.Groups.{ages_of_number, ages_of_position, is_same_position}
+use Rattle.brk_store_index.specs.Groups.{ages_of_number, ages_of_position}
 use Rattle.brk_store_index.specs.Parts.{ArePlacesOfLots, ArePlacesOfTrades, age_of_id, age_of_lot, age_of_trade}
 use Rattle.brk_store_index.specs.declared.age.RowAge.{RowAge}
 use Rattle.brk_store_index.specs.declared.group.Group as typed
@@ -81,3 +81,7 @@ row_of_age id_of test rows a = value_if (test a) (find (λ r. id_of r == a.id) r
 -- The row of the lot of the age `a`, if it is a lot of `account` in the security `symbol`.
 abbrev pub lot_of_age : List HoldingRow → ℕ → Text → RowAge → Option HoldingRow
 lot_of_age rows account symbol = row_of_age (λ r. r.trade) (λ a r. (r.account == account) && (bytes_eq r.symbol symbol && (r.stamp == a.stamp))) rows
+
+-- The row of the trade of the age `a`, if it passes the test and has the stamp of the age.
+abbrev pub trade_of_age : (TradeRow → Bool) → List TradeRow → RowAge → Option TradeRow
+trade_of_age test rows = row_of_age (λ r. r.id) (λ a r. test r && (r.stamp == a.stamp)) rows

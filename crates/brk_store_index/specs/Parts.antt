@@ -1,5 +1,5 @@
 -- The parts of the index: what each has of the rows of its table.
-use Rattle.std.specs.Prelude.{◌≡◌, ◌==◌, ◌&&◌, ℕ, Bool, true, List, Option, Some, None, bytes_eq, filter, if◌then◌else◌, map, nat_eq}
+use Rattle.std.specs.Prelude.{◌≡◌, ◌==◌, ℕ, Bool, true, List, Option, Some, None, bytes_eq, filter, if◌then◌else◌, map, nat_eq}
 use Rattle.std.specs.HashMap.{get}
 use Rattle.brk_money.specs.Kinds.{is_same_trade_status}
 use Rattle.brk_money.specs.Spelling.{Text}

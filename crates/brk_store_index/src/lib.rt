@@ -8,8 +8,8 @@ mod by_number;
 mod by_position;
 pub mod group;
 pub mod index;
-mod lots;
 pub mod lost;
+mod lots;
 mod trades;
 
 pub use age::RowAge;

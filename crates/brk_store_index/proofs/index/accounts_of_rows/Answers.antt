@@ -1,4 +1,4 @@
-use Rattle.std.proofs.Common.{[], arith, map, take}
+use Rattle.std.proofs.Common.{arith, map, take}
 use Rattle.brk_ref.specs.Records.{abstract_account_row}
 use Rattle.brk_store_index.specs.Groups.{ages_of_number}
 use Rattle.brk_store_index.specs.Parts.{AreAccountsOf}

@@ -1,4 +1,4 @@
-use Rattle.std.proofs.Common.{◌≡◌, None, nat_eq, rules}
+use Rattle.std.proofs.Common.{◌≡◌, nat_eq, rules}
 use Rattle.std.specs.HashMap.{get}
 use Rattle.brk_store_index.specs.Ages.{ages_in}
 use Rattle.brk_store_index.proofs.Placing.{number_none, number_removed, put_over}

@@ -1,4 +1,3 @@
-use Rattle.std.proofs.Common.{rules}
 use Rattle.brk_store_index.proofs.trades.TradeGroups.put.Goals as goal
 
 pub returns : goal.returns

@@ -1,5 +1,4 @@
 use Rattle.std.proofs.Common.{rules}
-use Rattle.brk_store_index.specs.Parts.{PutsTrade, TakesPlace}
 use Rattle.brk_store_index.proofs.Trading.{status_not_set, status_set}
 use Rattle.brk_store_index.proofs.trades.TradeGroups.set_status.Goals as goal
 
