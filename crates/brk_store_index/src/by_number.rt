@@ -34,13 +34,14 @@ impl AgesByNumber {
         self.groups.get(&number)
     }
 
-    // Fails also if the group has the age.
+    // Fails also if the group has the age. A new group has room for one age, since most groups of
+    // changes of lots have no more.
     pub(crate) fn insert(&mut self, number: u64, age: RowAge) -> Result<(), IndexLost>
         ensures { OnOk result ((other : ℕ) → InsertsAgeIf (number == other) (ages_of_number self.old other) age (ages_of_number self.new other)) }
     {
         let mut ages = match self.groups.remove(&number) {
             Some(ages) => ages,
-            None => VecDeque::new(self.alloc),
+            None => VecDeque::with_capacity(self.alloc, 1)?,
         };
         insert_age(&mut ages, age)?;
         self.groups.insert(number, ages)?;
