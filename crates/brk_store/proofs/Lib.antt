@@ -7,6 +7,7 @@ pub mod Sequences
 pub mod ReadResults
 pub mod TradesFound
 pub mod KeptIndex
+pub mod AdoptedReads
 pub mod ByAges
 pub mod ByIndex
 pub mod Definitions

@@ -1,24 +1,22 @@
-//! The index of lots, and pages of lots that are read by it.
+//! Pages of lots that are read by the index.
 
 ghost use Rattle.std.specs.Prelude.{◌≡◌, ◌==◌, ◌&&◌, Some, bytes_eq, false, map};
 ghost use Rattle.std.specs.Option.{option_copied};
-ghost use Rattle.brk_trade_rows.specs.Changes.{tables_after_changes};
 ghost use Rattle.brk_ref.specs.Rows.{abstract_holding_row};
-ghost use Rattle.brk_store_lots.specs.Ages.{IsIndexOf, ages_in, lot_of_age};
-ghost use Rattle.brk_model.specs.Tables.{Tables};
+ghost use Rattle.brk_store_lots.specs.Ages.{ages_in, lot_of_age};
 ghost use Rattle.brk_store_transactions.specs.Holds.{ReadPost};
-ghost use Rattle.brk_store.specs.Indexed.{HasRowOfEachAge, IsIndexOfTables};
+ghost use Rattle.brk_store.specs.Indexed.{HasRowOfEachAge};
 ghost use Rattle.brk_store.specs.ReadSequences.{ReadSequencePost};
 ghost use Rattle.brk_tables_schema.specs.Desk.{Holdings};
 ghost use Rattle.brk_tables_schema.specs.Statements.{IsFirstMatch};
 
 use crate::Store;
+use crate::index::{StoreIndex, read_index};
 use brk_money::{CallFault, Id, Stamp, StoreFailed};
 use brk_ref::{HoldingRow, Symbol};
 use brk_store_lots::ages::age_in_closing_order;
-use brk_store_lots::{LotAge, LotIndex};
+use brk_store_lots::LotAge;
 use brk_store_transactions::begin_transaction;
-use brk_trade_rows::Change;
 use sqlite::{Alter, Connection};
 use std::alloc::Global;
 use std::collections::VecDeque;
@@ -29,19 +27,6 @@ const PAGE_SIZE: usize = 16;
 // A desk with at most so many lots reads a page by a scan of HOLDING, which then takes less time than
 // up to 16 reads by key.
 const MOST_SCANNED_LOTS: usize = 128;
-
-/// An index that could not be updated is dropped; the next page of lots makes it again.
-pub(crate) fn index_after_changes(index: Option<LotIndex>, changes: &[Change]) -> Option<LotIndex>
-    ensures { (t : Tables) → IsIndexOfTables index t → IsIndexOfTables result (tables_after_changes changes.now t) }
-{
-    match index {
-        Some(mut index) => match index.update(changes) {
-            Ok(()) => Some(index),
-            Err(_) => None,
-        },
-        None => None,
-    }
-}
 
 #[tactic(auto, using(brk_store_transactions::proofs::Ending::read_is_over))]
 fn read_last_stamp<S: Alter>(conn: &mut Connection<S>) -> Result<Option<Stamp>, StoreFailed>
@@ -64,32 +49,6 @@ fn read_lot_by_trade<S: Alter>(
 {
     let mut tx = begin_transaction(conn);
     brk_tables_trading::lot_by_trade(&mut tx, trade)
-}
-
-#[tactic(auto, using(brk_store_transactions::proofs::Ending::read_is_over))]
-fn read_all_lots<S: Alter>(
-    conn: &mut Connection<S>,
-    alloc: Global,
-) -> Result<Vec<HoldingRow>, CallFault>
-    requires { conn.old.in_transaction ≡ false }
-    ensures mode { conn.new.in_transaction ≡ false }
-    ensures read { ReadPost S.Store conn.old conn.new result (λ all t. map abstract_holding_row all.items ≡ t.holdings) }
-{
-    let mut tx = begin_transaction(conn);
-    brk_tables_trading::all_lots(&mut tx, alloc)
-}
-
-// Fails with `Memory` also if two lots have one trade.
-fn read_lot_index<S: Alter>(conn: &mut Connection<S>, alloc: Global) -> Result<LotIndex, CallFault>
-    requires { conn.old.in_transaction ≡ false }
-    ensures mode { conn.new.in_transaction ≡ false }
-    ensures read { ReadPost S.Store conn.old conn.new result (λ index t. IsIndexOf index t.holdings) }
-{
-    let rows = read_all_lots(conn, alloc)?;
-    match LotIndex::of_rows(alloc, &rows) {
-        Ok(index) => Ok(index),
-        Err(_) => Err(CallFault::Memory),
-    }
 }
 
 // The lot must also have been opened at `stamp`.
@@ -174,19 +133,12 @@ impl<S: Alter> Store<S> {
     ghost use Rattle.brk_store.specs.ReadSequences.{IsUnchangedByReads};
     ghost use Rattle.brk_tables_trading.specs.Pages.{page_after_skipped};
 
-    // If the index cannot be made, the store tries no more.
+    // Makes the index if it is not made yet.
     fn prepare_index(&mut self, alloc: Global)
         ensures { IsUnchangedByReads S.Store self.old self.new }
     {
-        if !self.known {
-            return;
-        }
-        if self.index.is_some() {
-            return;
-        }
-        match read_lot_index(&mut self.conn, alloc) {
-            Ok(index) => self.index = Some(index),
-            Err(_) => self.known = false,
+        if let StoreIndex::Unmade = &self.index {
+            self.index = read_index(&mut self.conn, alloc);
         }
     }
 
@@ -221,19 +173,17 @@ impl<S: Alter> Store<S> {
         ensures read { ReadPost S.Store self.old self.new result (λ page t. map abstract_holding_row page.items
             ≡ page_after_skipped skipped (lot_rows_in_closing_order lifo account symbol.now t)) }
     {
-        if self.known {
-            if let Some(index) = &self.index {
-                if index.len() > MOST_SCANNED_LOTS {
-                    return read_indexed_page(
-                        &mut self.conn,
-                        alloc,
-                        account,
-                        symbol,
-                        lifo,
-                        skipped,
-                        index.ages_of_position(account, symbol),
-                    );
-                }
+        if let StoreIndex::Made(index) = &self.index {
+            if index.len() > MOST_SCANNED_LOTS {
+                return read_indexed_page(
+                    &mut self.conn,
+                    alloc,
+                    account,
+                    symbol,
+                    lifo,
+                    skipped,
+                    index.ages_of_position(account, symbol),
+                );
             }
         }
         self.page_of_scanned_lots(alloc, account, symbol, lifo, skipped)

@@ -6,6 +6,7 @@ mod adoption;
 mod brokers;
 mod cash;
 mod holdings;
+mod index;
 mod indexed;
 mod lot_changes;
 mod numbers;

@@ -237,6 +237,13 @@ module _ {S : Type 0} (g : Ghosts S) (old first : Held S) (settled : IsTrue (sta
               strangers_stay (IsTableOfSchema third_schema) p.1.0.0 (state g old).now (state g end).now (same_at clean on).now,
             )
 
+    -- and it was there before
+    pub third_there : (end : Held S) (schema : known.Schema) → told ≡ Succeeds schema → (abstract_schema schema).has_settle_rule_table ≡ true
+        → Survives (state g first) (state g end) (λ _. ⊥) → HasCleanDisk (state g end) → ConnectionTablesWithDeskNamesAreDeskTables g old → ConnectionHasThirdSchema g old
+    third_there end schema is rule late clean defined =
+        let p = told_at end (Succeeds Third) (subst (λ s. told ≡ Succeeds s) (third_has_rule schema rule) is) late clean defined in
+        λ _ _. desk_is_there third_schema p.0 (state g old).now p.1.0
+
     module _ (schema : known.Schema) (is : told ≡ Succeeds schema) (older : (abstract_schema schema).has_settle_rule_table ≡ false) (mid : Held S) where
       -- the move gave up
       pub move_gives_up : (end : Held S) (fault : CallFault)

@@ -4,6 +4,7 @@ pub mod AddTradeHistory
 pub mod AddRequest
 pub mod RemoveRequest
 pub mod TradeById
+pub mod TradesById
 pub mod LastTradeId
 pub mod SubmittedTrades
 pub mod RequestsAbove

@@ -21,6 +21,7 @@ use Rattle.brk_tables_schema.proofs.Compared.{at_least, at_most}
 use Rattle.brk_tables_schema.proofs.Order.{key_total}
 use Rattle.brk_tables_schema.proofs.Tests.{same_code, same_number, same_text}
 use Rattle.brk_tables_trading.proofs.TradeById
+use Rattle.brk_tables_trading.proofs.TradesById
 use Rattle.brk_tables_trading.proofs.LastTradeId
 use Rattle.brk_tables_trading.proofs.SubmittedTrades
 use Rattle.brk_tables_trading.proofs.RequestsAbove
@@ -33,6 +34,13 @@ tells_trade old new id rows shown =
     told_rising desk_tables Trades TradeById.statement TradeById.ask TradeById.paging TradeById.is_asked (natural_as_value id ∷ [])
     (λ (r : TradeRow). r.id == id) (λ tree x. same_number x.id id)
     trade_cells (λ x. refl) (ordering_by_primary_key Trades) (key_total trade_key) (λ tree x y. refl) old new rows shown (λ x y. refl)
+
+pub tells_trades : (old new : State) (rows : List Row) → Shown TradesById.statement [] old new rows → TablesSatisfy desk_tables (λ t. rows ≡ map trade_cells t.trades) old.now
+tells_trades old new rows shown = λ t tree h.
+    told_rising desk_tables Trades TradesById.statement TradesById.ask TradesById.paging TradesById.is_asked []
+    (λ _. true) (λ tree x. refl)
+    trade_cells (λ x. refl) (ordering_by_primary_key Trades) (key_total trade_key) (λ tree x y. refl) old new rows shown (λ x y. refl) t tree h
+    ∙ ap (map trade_cells) (filter_true t.trades)
 
 abbrev pub id_cells : ℕ → Row
 id_cells n = natural_as_value n ∷ []

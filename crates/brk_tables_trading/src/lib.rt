@@ -36,7 +36,8 @@ pub use settlements::add_settlement;
 pub use summaries::{add_holding_summary, remove_holding_summary, set_summary_quantity};
 pub use trade_lists::{history_of_trade, last_fifty_trades, last_ten_trades};
 pub use trades::{
-    add_trade, complete_trade, greatest_trade_id, set_trade_status, submitted_trades, trade_by_id,
+    add_trade, all_trades, complete_trade, greatest_trade_id, set_trade_status, submitted_trades,
+    trade_by_id,
 };
 pub use updates::{
     completed_cash_trades_of_symbol, completed_trades_of_account, set_cash_type, set_executor,

@@ -1,6 +1,8 @@
 pub mod TwentyOfAccount
 pub mod TwentyOfSymbol
 pub mod FirstSince
+pub mod ChangesByKey
+pub mod ChangeByKey
 pub mod ChangesBy
 pub mod ChangesOf
 pub mod BrokersNamed

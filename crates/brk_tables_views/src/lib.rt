@@ -29,7 +29,9 @@ pub use brokers::{account_ids_of_broker, all_requests, brokers_with_name};
 pub use cash_walk::walk_account_cash_rows;
 pub use closure_visitors::{ClosureVisitor, LotClosureVisitor};
 pub use holdings::completed_trade_ids;
-pub use lot_changes::{lot_changes_by_trade, lot_changes_of_lot};
+pub use lot_changes::{
+    all_lot_changes, lot_change_by_key, lot_changes_by_trade, lot_changes_of_lot,
+};
 pub use lot_walk::walk_lots;
 pub use trade_walk::walk_completed_trades;
 pub use trades_by_stamp::{first_trade_since, twenty_trades_of_account, twenty_trades_of_symbol};

@@ -1,10 +1,13 @@
-use Rattle.std.proofs.Common.{◌≡◌, ◌∙◌, Ok, Err, ap, false, rules, subst, sym, true}
+use Rattle.std.proofs.Common.{◌≡◌, ◌∙◌, Bool, Ok, Err, ap, false, rules, subst, sym, true}
+use Rattle.std.specs.Prelude.{MatchResult}
 use Rattle.std.proofs.lemmas.Result.{err_from_is_err_and}
+use Rattle.sqlite.specs.Held.{state}
+use Rattle.sqlite.specs.State.{HasCleanDisk}
 use Rattle.brk_money.specs.declared.fault.Fault.TheVariants.{Damaged, Store}
 use Rattle.brk_money.specs.declared.fault.Condition.TheVariants.{NotEmpty}
 use Rattle.brk_trade_rows.specs.Schemas.{abstract_schema}
-use Rattle.brk_store_transactions.specs.Audited.{AdoptPost}
-use Rattle.brk_store_transactions.proofs.Adoption.{commits, commits_none, fails, move_gives_up, passes}
+use Rattle.brk_store_transactions.specs.Audited.{AdoptPost, ConnectionHasThirdSchema, ConnectionTablesWithDeskNamesAreDeskTables}
+use Rattle.brk_store_transactions.proofs.Adoption.{commits, commits_none, fails, move_gives_up, passes, third_there}
 use Rattle.brk_store_transactions.proofs.Closing.{no_damage}
 use Rattle.brk_store_transactions.proofs.upgrading.audit_and_upgrade_database.Goals as goal
 
@@ -22,6 +25,17 @@ returns-then-has_settle_rule_table-clause-adopted g c =
     (passes g.S.Store c.args.conn.now c.audit_by_database_schema.new.tx.conn.now c.begin_transaction-tx.ensures.is_committed c.in_ok-condition.field-0
     (rw c.begin_transaction-tx.ensures.begun at c.in_ok-condition.ensures.step) c.drop-tx-then-has_settle_rule_table.new.self.0 c.in-Passes.schema
     c.in-Passes.is rule c.drop-tx-then-has_settle_rule_table.ensures.survives c.drop-tx-then-has_settle_rule_table.ensures.undone)
+
+pub returns-then-has_settle_rule_table-clause-not_upgraded : goal.returns-then-has_settle_rule_table-clause-not_upgraded
+returns-then-has_settle_rule_table-clause-not_upgraded g c =
+    let rule : (abstract_schema c.in-Passes.schema).has_settle_rule_table ≡ true = sym c.has_settle_rule_table.ensures ∙ c.if-has_settle_rule_table.true in
+    subst (λ h. false ≡ false → HasCleanDisk (state g.S.Store h) → ConnectionTablesWithDeskNamesAreDeskTables g.S.Store c.args.conn.now → ConnectionHasThirdSchema g.S.Store c.args.conn.now) (search rules)
+    (λ _. third_there g.S.Store c.args.conn.now c.audit_by_database_schema.new.tx.conn.now c.begin_transaction-tx.ensures.is_committed c.in_ok-condition.field-0
+    (rw c.begin_transaction-tx.ensures.begun at c.in_ok-condition.ensures.step) c.drop-tx-then-has_settle_rule_table.new.self.0 c.in-Passes.schema
+    c.in-Passes.is rule c.drop-tx-then-has_settle_rule_table.ensures.survives)
+
+pub returns-in-Ok-clause-not_upgraded : goal.returns-in-Ok-clause-not_upgraded
+returns-in-Ok-clause-not_upgraded g c = λ e. absurd (let f = e in cc)
 
 pub returns-in-Ok-clause-adopted : goal.returns-in-Ok-clause-adopted
 returns-in-Ok-clause-adopted g c =
@@ -44,8 +58,8 @@ returns-in_err-upgrade_tables-clause-adopted g c =
     let older : (abstract_schema c.in-Passes.schema).has_settle_rule_table ≡ false = sym c.has_settle_rule_table.ensures ∙ c.if-has_settle_rule_table.false in
     let fault = c.in_err-upgrade_tables.field-0.0 in
     let p = err_from_is_err_and c.from_residual-in_err-upgrade_tables.result c.from_residual-in_err-upgrade_tables.ensures.1 in
-    subst (λ h. AdoptPost g.S.Store c.args.conn.now h c.from_residual-in_err-upgrade_tables.result) (search rules)
-    (subst (λ r. AdoptPost g.S.Store c.args.conn.now c.drop-tx-in_err-upgrade_tables.new.self.0 r) (sym (p.1 ∙ ap Err p.2))
+    subst (λ h. MatchResult c.from_residual-in_err-upgrade_tables.result (λ _. AdoptPost g.S.Store c.args.conn.now h (Ok tt)) (λ e. AdoptPost g.S.Store c.args.conn.now h (Err e))) (search rules)
+    (subst (λ r. MatchResult {T = Bool} r (λ _. AdoptPost g.S.Store c.args.conn.now c.drop-tx-in_err-upgrade_tables.new.self.0 (Ok tt)) (λ e. AdoptPost g.S.Store c.args.conn.now c.drop-tx-in_err-upgrade_tables.new.self.0 (Err e))) (sym (p.1 ∙ ap Err p.2))
     (move_gives_up g.S.Store c.args.conn.now c.audit_by_database_schema.new.tx.conn.now c.begin_transaction-tx.ensures.is_committed c.in_ok-condition.field-0
     (rw c.begin_transaction-tx.ensures.begun at c.in_ok-condition.ensures.step) c.in-Passes.schema c.in-Passes.is older
     c.upgrade_tables.new.tx.conn.now c.drop-tx-in_err-upgrade_tables.new.self.0 fault c.in_err-upgrade_tables.ensures.step

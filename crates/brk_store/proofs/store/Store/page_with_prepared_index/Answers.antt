@@ -27,7 +27,7 @@ returns-then-len-gt-MOST_SCANNED_LOTS g c =
       read = subst (λ h. ReadPost g.S.Store h end c.read_indexed_page.result tells) c.self.view_is
           (read_weaker g.S.Store conn end c.read_indexed_page.result shows tells
           (λ clean on page t holds shown.
-          page_of_index g.S.Store conn c.self.inside.known c.in-Some.index (rw c.in-Some.is at c.self.invariant.1) c.if-self.true
+          page_of_index g.S.Store conn c.in-Made.index (rw c.in-Made.is at c.self.invariant.1)
           (disk_was_clean_before_reads conn end (single_read_changes_nothing conn end c.read_indexed_page.result shows c.read_indexed_page.ensures.read) clean) on
           account symbol c.args.lifo c.args.skipped ages c.ages_of_position.ensures page.items t holds shown)
           c.read_indexed_page.ensures.read);

@@ -7,7 +7,7 @@ use Rattle.brk_store_lots.specs.Ages.{IsIndexOf}
 use Rattle.brk_store_lots.specs.declared.index.LotIndex.{LotIndex}
 use Rattle.brk_model.specs.Tables.{Tables}
 use Rattle.brk_store.proofs.ReadResults.{decided}
-use Rattle.brk_store.proofs.indexed.read_lot_index.Goals as goal
+use Rattle.brk_store.proofs.index.read_lot_index.Goals as goal
 
 abbrev AreAllLots : Vec row.HoldingRow → Tables → Type 0
 AreAllLots all t = map abstract_holding_row all.items ≡ t.holdings

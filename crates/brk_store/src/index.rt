@@ -1,0 +1,109 @@
+//! The index of a store in memory: made from its tables, and kept over changes.
+
+ghost use Rattle.std.specs.Prelude.{◌≡◌, IsTrue, false, map, true};
+ghost use Rattle.sqlite.specs.Effect.{Database};
+ghost use Rattle.brk_trade_rows.specs.Changes.{tables_after_changes};
+ghost use Rattle.brk_ref.specs.Rows.{abstract_holding_row};
+ghost use Rattle.brk_store_lots.specs.Ages.{IsIndexOf};
+ghost use Rattle.brk_model.specs.Tables.{Tables};
+ghost use Rattle.brk_store_transactions.specs.Holds.{ReadPost};
+ghost use Rattle.brk_store.specs.Indexed.{IndexIsTrue, IsIndexOfDatabase};
+ghost use Rattle.brk_store.specs.declared.index.StoreIndex.TheVariants.{Unmade};
+ghost use Rattle.brk_store.specs.ReadSequences.{IsUnchangedByReads};
+ghost use Rattle.brk_tables_schema.specs.Made.{HasDeskTables};
+
+use brk_money::CallFault;
+use brk_ref::HoldingRow;
+use brk_store_lots::LotIndex;
+use brk_store_transactions::begin_transaction;
+use brk_trade_rows::Change;
+use sqlite::{Alter, Connection};
+use std::alloc::Global;
+
+/// The index of a store: of its tables, if it has one.
+#[derive(Drop)]
+pub(crate) enum StoreIndex {
+    // The database has the tables of a desk. The first read that could use the index makes it.
+    Unmade,
+    Made(LotIndex),
+    // Reads scan the tables.
+    Absent,
+}
+
+/// An index that could not be updated is dropped, and may be made again.
+pub(crate) fn index_after_changes(index: StoreIndex, changes: &[Change]) -> StoreIndex
+    ensures { (a b : Database) → ((t : Tables) → HasDeskTables t a → HasDeskTables (tables_after_changes changes.now t) b)
+        → IsIndexOfDatabase index a → IsIndexOfDatabase result b }
+{
+    match index {
+        StoreIndex::Made(mut made) => match made.update(changes) {
+            Ok(()) => StoreIndex::Made(made),
+            Err(_) => StoreIndex::Unmade,
+        },
+        StoreIndex::Unmade => StoreIndex::Unmade,
+        StoreIndex::Absent => StoreIndex::Absent,
+    }
+}
+
+#[tactic(auto, using(brk_store_transactions::proofs::Ending::read_is_over))]
+fn read_all_lots<S: Alter>(
+    conn: &mut Connection<S>,
+    alloc: Global,
+) -> Result<Vec<HoldingRow>, CallFault>
+    requires { conn.old.in_transaction ≡ false }
+    ensures mode { conn.new.in_transaction ≡ false }
+    ensures read { ReadPost S.Store conn.old conn.new result (λ all t. map abstract_holding_row all.items ≡ t.holdings) }
+{
+    let mut tx = begin_transaction(conn);
+    brk_tables_trading::all_lots(&mut tx, alloc)
+}
+
+// Fails with `Memory` also if two lots have one trade.
+fn read_lot_index<S: Alter>(conn: &mut Connection<S>, alloc: Global) -> Result<LotIndex, CallFault>
+    requires { conn.old.in_transaction ≡ false }
+    ensures mode { conn.new.in_transaction ≡ false }
+    ensures read { ReadPost S.Store conn.old conn.new result (λ index t. IsIndexOf index t.holdings) }
+{
+    let rows = read_all_lots(conn, alloc)?;
+    match LotIndex::of_rows(alloc, &rows) {
+        Ok(index) => Ok(index),
+        Err(_) => Err(CallFault::Memory),
+    }
+}
+
+/// Reads the index of a database with the tables of a desk. An index that cannot be made is absent
+/// from then on.
+pub(crate) fn read_index<S: Alter>(conn: &mut Connection<S>, alloc: Global) -> StoreIndex
+    requires { conn.old.in_transaction ≡ false }
+    ensures mode { conn.new.in_transaction ≡ false }
+    ensures unchanged { IsUnchangedByReads S.Store conn.old conn.new }
+    ensures index { IndexIsTrue S.Store conn.old Unmade → IndexIsTrue S.Store conn.new result }
+{
+    match read_lot_index(conn, alloc) {
+        Ok(index) => StoreIndex::Made(index),
+        Err(_) => StoreIndex::Absent,
+    }
+}
+
+/// Reads the index of a database that was adopted, if its definitions are known to be a desk's. After
+/// an upgrade nothing is read, since a failure of the disk would close a store that is to be open.
+pub(crate) fn index_of_adopted<S: Alter>(
+    conn: &mut Connection<S>,
+    alloc: Global,
+    has_definitions: bool,
+    is_upgraded: bool,
+) -> StoreIndex
+    requires { conn.old.in_transaction ≡ false }
+    ensures mode { conn.new.in_transaction ≡ false }
+    ensures unchanged { IsUnchangedByReads S.Store conn.old conn.new }
+    ensures unread { is_upgraded ≡ true → conn.new ≡ conn.old }
+    ensures index { (IsTrue has_definitions → IndexIsTrue S.Store conn.old Unmade) → IndexIsTrue S.Store conn.new result }
+{
+    if !has_definitions {
+        return StoreIndex::Absent;
+    }
+    if is_upgraded {
+        return StoreIndex::Unmade;
+    }
+    read_index(conn, alloc)
+}
