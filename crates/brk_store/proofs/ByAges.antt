@@ -1,6 +1,6 @@
--- Pages of lots that are read by their ages.
-use Rattle.std.proofs.Common.{◌≡◌, ◌∙◌, ◌+◌, ◌≤◌, ℕ, zero, suc, Bool, true, false, List, [], ◌∷◌, ◌++◌, Option, Some, None, Result, Ok, Err, IfOk, OnOk, IsTrue, length, map, take, drop, slice_get, refl, sym, ap, ap₂, arith}
-use Rattle.std.proofs.lemmas.List.{length-drop, map-append, take_all}
+-- Rows that are read by their ages.
+use Rattle.std.proofs.Common.{◌≡◌, ◌∙◌, ◌+◌, ◌<◌, ◌≤◌, ℕ, zero, suc, Bool, true, false, List, [], ◌∷◌, ◌++◌, Option, Some, None, Result, Ok, Err, IfOk, OnOk, IsTrue, cond, filter, get_or, length, map, take, drop, slice_get, refl, sym, ap, ap₂, subst, arith}
+use Rattle.std.proofs.lemmas.List.{append-nil, length-drop, take-append-drop, take_all, take_more}
 use Rattle.sqlite_trees.specs.declared.store.Store.{Ghosts}
 use Rattle.sqlite.specs.Held.{Held, state}
 use Rattle.sqlite.specs.State.{HasCleanDisk}
@@ -8,6 +8,7 @@ use Rattle.brk_model.specs.Tables.{Tables}
 use Rattle.brk_store_lots.specs.Ages.{in_closing_order}
 use Rattle.brk_store_lots.specs.declared.age.LotAge.{LotAge}
 use Rattle.brk_store_transactions.specs.Holds.{HoldsRows, ReadPost}
+use Rattle.brk_store.specs.Indexed.{AreRowsOfAges}
 use Rattle.brk_store.specs.ReadSequences.{IsUnchangedByReads, ReadSequencePost, disk_was_clean_before_reads, joined_reads_change_nothing, single_read_changes_nothing}
 
 -- ---- reads
@@ -90,28 +91,106 @@ one_age es n a is m k sum = next (drop k es) m a (sym (got k es m) ∙ ap (slice
     next (x ∷ xs) (suc m) a e = let f : suc m + 1 ≡ suc (m + 1) = omega arith in ap (λ j. take j (x ∷ xs)) f ∙ ap (λ l. x ∷ l) (next xs m a e)
 
 -- no more ages are there
-pub no_age : {X : Type 0} (es : List X) (n : ℕ) → None ≡ slice_get es n → (m : ℕ) (k : ℕ) → n ≡ k + m → m ≤ 16 → take m (drop k es) ≡ take 16 (drop k es)
-no_age es n none m k sum most =
+pub no_age : {X : Type 0} (es : List X) (n : ℕ) → None ≡ slice_get es n → (m : ℕ) (k most : ℕ) → n ≡ k + m → m ≤ most → take m (drop k es) ≡ take most (drop k es)
+no_age es n none m k most sum within =
     let all : length es ≤ n = past es n (sym none) in
     let few : length (drop k es) ≤ m = omega (arith, length-drop k es) in
-    take_all m (drop k es) few ∙ sym (take_all 16 (drop k es) (omega (arith, few)))
+    take_all m (drop k es) few ∙ sym (take_all most (drop k es) (omega (arith, few)))
   where
     past : {X : Type 0} (xs : List X) (n : ℕ) → slice_get xs n ≡ None → length xs ≤ n
     past [] n e = omega arith
     past (x ∷ xs) zero e = absurd (let f = e in cc)
     past (x ∷ xs) (suc n) e = let more = past xs n e in omega (arith, more)
 
--- a row of a page, and the row that its age finds
-pub row_read : {X Y Z : Type 0} (h : Z → Y) (f : X → Option Y) (page : List Z) (z : Z) (es more : List X) (a : X) → map Some (map h page) ≡ map f es → Some (h z) ≡ f a → more ≡ es ++ a ∷ []
-    → map Some (map h (page ++ z ∷ [])) ≡ map f more
-row_read h f page z es more a before this is =
-    ap (map Some) (map-append h page (z ∷ [])) ∙ map-append Some (map h page) (h z ∷ []) ∙ ap₂ (λ l o. l ++ o ∷ []) before this ∙ sym (ap (map f) is ∙ map-append f es (a ∷ []))
+-- ---- the rows of ages
+
+pub no_row : {X : Type 0} (IsRowOf : LotAge → X → Type 0) (rows : List X) → rows ≡ [] → AreRowsOfAges IsRowOf [] rows
+no_row IsRowOf rows none = subst (AreRowsOfAges IsRowOf []) (sym none) tt
+
+both_pushed : {X : Type 0} (IsRowOf : LotAge → X → Type 0) (ages : List LotAge) (age : LotAge) (rows : List X) (row : X) → AreRowsOfAges IsRowOf ages rows → IsRowOf age row
+    → AreRowsOfAges IsRowOf (ages ++ age ∷ []) (rows ++ row ∷ [])
+both_pushed IsRowOf [] age [] row all is = (is, tt)
+both_pushed IsRowOf [] age (r ∷ rows) row all is = absurd all
+both_pushed IsRowOf (a ∷ ages) age [] row all is = absurd all
+both_pushed IsRowOf (a ∷ ages) age (r ∷ rows) row all is = (all.0, both_pushed IsRowOf ages age rows row all.1 is)
+
+-- the row of one more age
+pub one_row : {X : Type 0} (IsRowOf : LotAge → X → Type 0) (ages : List LotAge) (i : ℕ) (age : LotAge) (rows more : List X) (row : X) → i < length ages → age ≡ get_or ages i age
+    → more ≡ rows ++ row ∷ [] → AreRowsOfAges IsRowOf (take i ages) rows → IsRowOf age row → AreRowsOfAges IsRowOf (take (i + 1) ages) more
+one_row IsRowOf ages i age rows more row inside is pushed all found =
+    let next : take (i + 1) ages ≡ take i ages ++ age ∷ [] = take_more ages i age inside ∙ sym (ap (λ z. take i ages ++ z ∷ []) is) in
+    subst (λ l. AreRowsOfAges IsRowOf (take (i + 1) ages) l) (sym pushed)
+    (subst (λ l. AreRowsOfAges IsRowOf l (rows ++ row ∷ [])) (sym next) (both_pushed IsRowOf (take i ages) age rows row all found))
+
+-- the rows are those that a look-up finds of the ages
+pub found_of_ages : {X Y : Type 0} (h : X → Y) (f : LotAge → Option Y) (ages : List LotAge) (rows : List X) → AreRowsOfAges (λ age row. Some (h row) ≡ f age) ages rows
+    → map Some (map h rows) ≡ map f ages
+found_of_ages h f [] [] all = refl
+found_of_ages h f [] (r ∷ rows) all = absurd all
+found_of_ages h f (a ∷ ages) [] all = absurd all
+found_of_ages h f (a ∷ ages) (r ∷ rows) all = ap₂ ◌∷◌ all.0 (found_of_ages h f ages rows all.1)
 
 drop_none : (n : ℕ) (xs : List LotAge) → xs ≡ [] → drop n xs ≡ []
 drop_none zero xs e = e
 drop_none (suc n) [] e = refl
 drop_none (suc n) (x ∷ xs) e = absurd (let f = e in cc)
 
-pub no_ages : (lifo : Bool) (skipped : ℕ) → take 16 (drop skipped (in_closing_order {X = LotAge} lifo [])) ≡ []
-no_ages true skipped = ap (take 16) (drop_none skipped [] refl)
-no_ages false skipped = ap (take 16) (drop_none skipped [] refl)
+take_none : (n : ℕ) (xs : List LotAge) → xs ≡ [] → take n xs ≡ []
+take_none zero xs e = refl
+take_none (suc n) [] e = refl
+take_none (suc n) (x ∷ xs) e = absurd (let f = e in cc)
+
+pub no_ages : (lifo : Bool) (skipped most : ℕ) → take most (drop skipped (in_closing_order {X = LotAge} lifo [])) ≡ []
+no_ages true skipped most = take_none most (drop skipped []) (drop_none skipped [] refl)
+no_ages false skipped most = take_none most (drop skipped []) (drop_none skipped [] refl)
+
+pub none_of_none : (p : LotAge → Bool) (most : ℕ) → take most (filter p []) ≡ []
+none_of_none p most = take_none most [] refl
+
+-- ---- the ages that pass a test
+
+-- one more age is looked at
+looked_at : (ages : List LotAge) (i : ℕ) (age : LotAge) → i < length ages → age ≡ get_or ages i age → take (i + 1) ages ≡ take i ages ++ age ∷ []
+looked_at ages i age inside is = take_more ages i age inside ∙ sym (ap (λ z. take i ages ++ z ∷ []) is)
+
+filter_pushed : (p : LotAge → Bool) (ages : List LotAge) (age : LotAge) → filter p (ages ++ age ∷ []) ≡ filter p ages ++ cond (p age) (age ∷ []) []
+filter_pushed p [] age = refl
+filter_pushed p (a ∷ ages) age = go (p a) (filter_pushed p ages age)
+  where
+    go : (b : Bool) → filter p (ages ++ age ∷ []) ≡ filter p ages ++ cond (p age) (age ∷ []) []
+        → cond b (a ∷ filter p (ages ++ age ∷ [])) (filter p (ages ++ age ∷ [])) ≡ cond b (a ∷ filter p ages) (filter p ages) ++ cond (p age) (age ∷ []) []
+    go true same = ap (λ l. a ∷ l) same
+    go false same = same
+
+pub one_passes : (p : LotAge → Bool) (ages : List LotAge) (i : ℕ) (age : LotAge) → i < length ages → age ≡ get_or ages i age → p age ≡ true
+    → filter p (take (i + 1) ages) ≡ filter p (take i ages) ++ age ∷ []
+one_passes p ages i age inside is passes =
+    ap (filter p) (looked_at ages i age inside is) ∙ filter_pushed p (take i ages) age ∙ ap (λ b. filter p (take i ages) ++ cond b (age ∷ []) []) passes
+
+pub one_fails : (p : LotAge → Bool) (ages : List LotAge) (i : ℕ) (age : LotAge) → i < length ages → age ≡ get_or ages i age → p age ≡ false
+    → filter p (take (i + 1) ages) ≡ filter p (take i ages)
+one_fails p ages i age inside is fails =
+    ap (filter p) (looked_at ages i age inside is) ∙ filter_pushed p (take i ages) age ∙ ap (λ b. filter p (take i ages) ++ cond b (age ∷ []) []) fails ∙ append-nil (filter p (take i ages))
+
+-- enough have passed, or all were looked at
+pub enough : (p : LotAge → Bool) (ages : List LotAge) (i most : ℕ) → most ≤ length (filter p (take i ages)) → length (filter p (take i ages)) ≤ most
+    → filter p (take i ages) ≡ take most (filter p ages)
+enough p ages i most least few =
+    let first = filter p (take i ages) in
+    let whole : filter p ages ≡ first ++ filter p (drop i ages) = ap (filter p) (sym (take-append-drop i ages)) ∙ filter_append p (take i ages) (drop i ages) in
+    sym (ap (take most) whole ∙ take_first most first (filter p (drop i ages)) (omega (arith, least, few)))
+  where
+    filter_append : (p : LotAge → Bool) (xs ys : List LotAge) → filter p (xs ++ ys) ≡ filter p xs ++ filter p ys
+    filter_append p [] ys = refl
+    filter_append p (x ∷ xs) ys = go (p x) (filter_append p xs ys)
+      where
+        go : (b : Bool) → filter p (xs ++ ys) ≡ filter p xs ++ filter p ys → cond b (x ∷ filter p (xs ++ ys)) (filter p (xs ++ ys)) ≡ cond b (x ∷ filter p xs) (filter p xs) ++ filter p ys
+        go true same = ap (λ l. x ∷ l) same
+        go false same = same
+
+    take_first : (n : ℕ) (xs ys : List LotAge) → length xs ≡ n → take n (xs ++ ys) ≡ xs
+    take_first zero [] [] e = refl
+    take_first zero [] (y ∷ ys) e = refl
+    take_first zero (x ∷ xs) ys e = absurd (omega (arith, e))
+    take_first (suc n) [] ys e = absurd (omega (arith, e))
+    take_first (suc n) (x ∷ xs) ys e = ap (λ l. x ∷ l) (take_first n xs ys (omega (arith, e)))

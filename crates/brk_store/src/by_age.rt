@@ -1,19 +1,16 @@
 //! Rows that are read one after another by their ages, which an index has.
 
-ghost use Rattle.std.specs.Prelude.{◌≡◌, ◌+◌, ◌<◌, ◌^◌, IfOk, drop, false, take};
+ghost use Rattle.std.specs.Prelude.{◌≡◌, false};
 ghost use Rattle.brk_model.specs.Tables.{Tables};
-ghost use Rattle.brk_store_lots.specs.Ages.{in_closing_order};
 ghost use Rattle.brk_store_transactions.specs.Holds.{ReadPost};
 ghost use Rattle.brk_store.specs.Indexed.{AreRowsOfAges};
 ghost use Rattle.brk_store.specs.ReadSequences.{ReadSequencePost};
 
 use brk_money::{CallFault, Stamp, StoreFailed};
 use brk_store_lots::LotAge;
-use brk_store_lots::ages::age_in_closing_order;
 use brk_store_transactions::begin_transaction;
 use sqlite::{Alter, Connection};
-use std::alloc::{AllocError, Global};
-use std::collections::VecDeque;
+use std::alloc::Global;
 
 /// Rows of one kind, each of which is read by its age.
 pub(crate) trait RowsByAge<S: Alter, R> {
@@ -25,28 +22,6 @@ pub(crate) trait RowsByAge<S: Alter, R> {
         requires { conn.old.in_transaction ≡ false }
         ensures mode { conn.new.in_transaction ≡ false }
         ensures read { ReadPost S.Store conn.old conn.new result (λ row t. found self.now age.now row t) };
-}
-
-/// Returns at most `most` ages after the first `skipped`, the newest first if `newest_first`,
-/// otherwise the oldest first.
-pub(crate) fn ages_from_end(
-    alloc: Global,
-    ages: &VecDeque<LotAge>,
-    newest_first: bool,
-    skipped: usize,
-    most: usize,
-) -> Result<Vec<LotAge>, AllocError>
-    requires { skipped + most < 2 ^ 64 }
-    ensures { IfOk result (λ chosen. chosen.items ≡ take most (drop skipped (in_closing_order newest_first ages.now.items))) }
-{
-    let mut chosen = Vec::new(alloc);
-    for place in 0..most {
-        let Some(age) = age_in_closing_order(ages, newest_first, skipped + place) else {
-            return Ok(chosen);
-        };
-        chosen.push(age)?;
-    }
-    Ok(chosen)
 }
 
 #[tactic(auto, using(brk_store_transactions::proofs::Ending::read_is_over))]

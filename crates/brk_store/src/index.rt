@@ -12,6 +12,7 @@ ghost use Rattle.brk_store.specs.declared.index.StoreIndex.TheVariants.{Unmade};
 ghost use Rattle.brk_store.specs.ReadSequences.{IsUnchangedByReads};
 ghost use Rattle.brk_tables_schema.specs.Made.{HasDeskTables};
 
+use crate::Store;
 use brk_money::CallFault;
 use brk_ref::HoldingRow;
 use brk_store_lots::LotIndex;
@@ -106,4 +107,17 @@ pub(crate) fn index_of_adopted<S: Alter>(
         return StoreIndex::Unmade;
     }
     read_index(conn, alloc)
+}
+
+impl<S: Alter> Store<S> {
+    ghost use Rattle.brk_store.specs.ReadSequences.{IsUnchangedByReads};
+
+    /// Makes the index if it is not made yet.
+    pub(crate) fn prepare_index(&mut self, alloc: Global)
+        ensures { IsUnchangedByReads S.Store self.old self.new }
+    {
+        if let StoreIndex::Unmade = &self.index {
+            self.index = read_index(&mut self.conn, alloc);
+        }
+    }
 }

@@ -4,11 +4,13 @@
 
 mod adoption;
 mod brokers;
+mod by_age;
 mod cash;
+mod chosen_ages;
 mod holdings;
 mod index;
-mod indexed;
 mod lot_changes;
+mod lots;
 mod numbers;
 pub mod pages;
 mod reading;

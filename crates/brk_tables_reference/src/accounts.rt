@@ -57,12 +57,12 @@ pub fn all_accounts<S: Alter>(
     ensures same_reference { tx.new.conn.ghost_name ≡ tx.old.conn.ghost_name }
     ensures step { ReadsDeskTables S.Store tx.old tx.new result (λ all t. map abstract_account_row all.items ≡ t.accounts) }
 {
-    let rows = select_rows(
+    let accounts = select_rows(
         tx,
         "SELECT CA_ID, CA_C_ID, CA_B_ID, CA_NAME, CA_TAX_ST, CA_OPEN, CA_BAL FROM CUSTOMER_ACCOUNT ORDER BY CA_ID",
         &[],
     )?;
-    decode_rows(alloc, &rows)
+    decode_rows(alloc, &accounts)
 }
 
 /// Returns the accounts of a customer, sorted by id, ascending.

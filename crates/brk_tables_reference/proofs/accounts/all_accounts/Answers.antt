@@ -18,6 +18,6 @@ pub returns-clause-step : goal.returns-clause-step
 returns-clause-step g c =
     let old = state g.S.Store c.args.tx.now.conn.now in
     let new = state g.S.Store c.select_rows.new.tx.conn.now in
-    look_all desk_tables account_cells account_back account_is_back abstract_account_row AccountsById.statement [] old new c.in_ok-rows.rows
-    (λ rows. rows.items) _ c.deref.ensures.value c.in_ok-rows.ensures.step
+    look_all desk_tables account_cells account_back account_is_back abstract_account_row AccountsById.statement [] old new c.in_ok-accounts.accounts
+    (λ rows. rows.items) _ c.deref.ensures.value c.in_ok-accounts.ensures.step
     (λ all. all.items) c.decode_rows.result c.decode_rows.ensures.value (λ (t : Tables). t.accounts) (tells_all_accounts old new _)

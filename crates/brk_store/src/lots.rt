@@ -1,20 +1,20 @@
-//! Pages of lots that are read by the index.
+//! Pages of the lots of a position: by the index, or by a scan of HOLDING.
 
-ghost use Rattle.std.specs.Prelude.{◌≡◌, ◌==◌, ◌&&◌, Some, bytes_eq, false, map};
+ghost use Rattle.std.specs.Prelude.{◌≡◌, ◌==◌, ◌&&◌, Some, bytes_eq, false};
 ghost use Rattle.std.specs.Option.{option_copied};
 ghost use Rattle.brk_ref.specs.Rows.{abstract_holding_row};
 ghost use Rattle.brk_store_lots.specs.Ages.{ages_in, lot_of_age};
 ghost use Rattle.brk_store_transactions.specs.Holds.{ReadPost};
 ghost use Rattle.brk_store.specs.Indexed.{HasRowOfEachAge};
-ghost use Rattle.brk_store.specs.ReadSequences.{ReadSequencePost};
 ghost use Rattle.brk_tables_schema.specs.Desk.{Holdings};
 ghost use Rattle.brk_tables_schema.specs.Statements.{IsFirstMatch};
 
 use crate::Store;
-use crate::index::{StoreIndex, read_index};
+use crate::by_age::{RowsByAge, read_rows_of_ages};
+use crate::chosen_ages::choose_ages;
+use crate::index::StoreIndex;
 use brk_money::{CallFault, Id, Stamp, StoreFailed};
 use brk_ref::{HoldingRow, Symbol};
-use brk_store_lots::ages::age_in_closing_order;
 use brk_store_lots::LotAge;
 use brk_store_transactions::begin_transaction;
 use sqlite::{Alter, Connection};
@@ -27,16 +27,6 @@ const PAGE_SIZE: usize = 16;
 // A desk with at most so many lots reads a page by a scan of HOLDING, which then takes less time than
 // up to 16 reads by key.
 const MOST_SCANNED_LOTS: usize = 128;
-
-#[tactic(auto, using(brk_store_transactions::proofs::Ending::read_is_over))]
-fn read_last_stamp<S: Alter>(conn: &mut Connection<S>) -> Result<Option<Stamp>, StoreFailed>
-    requires { conn.old.in_transaction ≡ false }
-    ensures mode { conn.new.in_transaction ≡ false }
-    ensures read { ReadPost S.Store conn.old conn.new result (λ last t. last ≡ t.last) }
-{
-    let mut tx = begin_transaction(conn);
-    brk_tables_schema::last_stamp(&mut tx)
-}
 
 #[tactic(auto, using(brk_store_transactions::proofs::Ending::read_is_over))]
 fn read_lot_by_trade<S: Alter>(
@@ -58,52 +48,30 @@ fn is_lot_of_position(row: &HoldingRow, account: Id, symbol: &Symbol, stamp: Sta
     row.account == account && row.symbol.as_str() == symbol.as_str() && row.stamp == stamp
 }
 
-// Fails also if there is no such row.
-fn read_lot_of_age<S: Alter>(
-    conn: &mut Connection<S>,
+struct LotsOfPosition<'a> {
     account: Id,
-    symbol: &Symbol,
-    age: &LotAge,
-) -> Result<HoldingRow, StoreFailed>
-    requires { conn.old.in_transaction ≡ false }
-    ensures mode { conn.new.in_transaction ≡ false }
-    ensures read { ReadPost S.Store conn.old conn.new result (λ row t. Some (abstract_holding_row row) ≡ lot_of_age t.holdings account symbol.now age.now) }
-{
-    let Some(row) = read_lot_by_trade(conn, age.trade)? else {
-        return Err(StoreFailed);
-    };
-    if !is_lot_of_position(&row, account, symbol, age.stamp) {
-        return Err(StoreFailed);
-    }
-    Ok(row)
+    symbol: &'a Symbol,
 }
 
-// Reads a page: at most 16 lots after the first `skipped`, in the order in which they are closed.
-fn read_lots_of_ages<S: Alter>(
-    conn: &mut Connection<S>,
-    alloc: Global,
-    account: Id,
-    symbol: &Symbol,
-    lifo: bool,
-    skipped: u32,
-    ages: &VecDeque<LotAge>,
-) -> Result<Vec<HoldingRow>, CallFault>
-    requires { conn.old.in_transaction ≡ false }
-    ensures mode { conn.new.in_transaction ≡ false }
-    ensures read { ReadSequencePost S.Store conn.old conn.new result (λ page t. HasRowOfEachAge account symbol.now lifo skipped ages.now.items page.items t) }
-{
-    let first = skipped as usize;
-    let mut page = Vec::new(alloc);
-    for place in 0..PAGE_SIZE {
-        let Some(age) = age_in_closing_order(ages, lifo, first + place) else {
-            return Ok(page);
+impl<S: Alter> RowsByAge<S, HoldingRow> for LotsOfPosition<'_> {
+    ghost found = { λ position age row t. Some (abstract_holding_row row) ≡ lot_of_age t.holdings position.account position.symbol.now age };
+
+    fn row_of_age(
+        &self,
+        conn: &mut Connection<S>,
+        age: &LotAge,
+    ) -> Result<HoldingRow, StoreFailed> {
+        let Some(row) = read_lot_by_trade(conn, age.trade)? else {
+            return Err(StoreFailed);
         };
-        let row = read_lot_of_age(conn, account, symbol, &age)?;
-        page.push(row)?;
+        if !is_lot_of_position(&row, self.account, self.symbol, age.stamp) {
+            return Err(StoreFailed);
+        }
+        Ok(row)
     }
-    Ok(page)
 }
 
+// At most 16 lots after the first `skipped`, in the order in which they are closed.
 fn read_indexed_page<S: Alter>(
     conn: &mut Connection<S>,
     alloc: Global,
@@ -117,12 +85,8 @@ fn read_indexed_page<S: Alter>(
     ensures mode { conn.new.in_transaction ≡ false }
     ensures read { ReadPost S.Store conn.old conn.new result (λ page t. HasRowOfEachAge account symbol.now lifo skipped (ages_in (option_copied ages.entry)) page.items t) }
 {
-    // Called because it fails if the database is not open.
-    let _last = read_last_stamp(conn)?;
-    match ages {
-        Some(ages) => read_lots_of_ages(conn, alloc, account, symbol, lifo, skipped, ages),
-        None => Ok(Vec::new(alloc)),
-    }
+    let page = choose_ages(alloc, ages, lifo, skipped as usize, PAGE_SIZE)?;
+    read_rows_of_ages(conn, alloc, &LotsOfPosition { account, symbol }, &page)
 }
 
 impl<S: Alter> Store<S> {
@@ -130,17 +94,7 @@ impl<S: Alter> Store<S> {
     ghost use Rattle.brk_ref.specs.Rows.{abstract_holding_row};
     ghost use Rattle.brk_store_transactions.specs.Holds.{ReadPost};
     ghost use Rattle.brk_store.specs.Pages.{lot_rows_in_closing_order};
-    ghost use Rattle.brk_store.specs.ReadSequences.{IsUnchangedByReads};
     ghost use Rattle.brk_tables_trading.specs.Pages.{page_after_skipped};
-
-    // Makes the index if it is not made yet.
-    fn prepare_index(&mut self, alloc: Global)
-        ensures { IsUnchangedByReads S.Store self.old self.new }
-    {
-        if let StoreIndex::Unmade = &self.index {
-            self.index = read_index(&mut self.conn, alloc);
-        }
-    }
 
     fn page_of_scanned_lots(
         &mut self,

@@ -1,0 +1,19 @@
+use Rattle.std.proofs.Common.{◌≡◌, ◌∙◌, Some, ap, map}
+use Rattle.std.specs.Global.{Vec}
+use Rattle.std.specs.Option.{option_copied}
+use Rattle.brk_ref.specs.Rows.{abstract_holding_row}
+use Rattle.brk_ref.specs.declared.holding_row.HoldingRow as row
+use Rattle.brk_store_lots.specs.Ages.{ages_in, lot_of_age}
+use Rattle.brk_model.specs.Tables.{Tables}
+use Rattle.brk_store.specs.Indexed.{AreRowsOfAges, HasRowOfEachAge}
+use Rattle.brk_store.proofs.ByAges.{found_of_ages, read_weaker}
+use Rattle.brk_store.proofs.lots.read_indexed_page.Goals as goal
+
+pub returns-clause-read : goal.returns-clause-read
+returns-clause-read g c =
+    let f = λ (t : Tables). lot_of_age t.holdings c.args.account c.args.symbol.now in
+    let chosen = c.in_ok-page.page.items in
+    read_weaker g.S.Store c.args.conn.now c.read_rows_of_ages.new.conn c.read_rows_of_ages.result
+    (λ (rows : Vec row.HoldingRow) (t : Tables). AreRowsOfAges (λ age r. Some (abstract_holding_row r) ≡ f t age) chosen rows.items)
+    (λ (rows : Vec row.HoldingRow) (t : Tables). HasRowOfEachAge c.args.account c.args.symbol.now c.args.lifo c.args.skipped (ages_in (option_copied c.args.ages)) rows.items t)
+    (λ clean on rows t holds all. found_of_ages abstract_holding_row (f t) chosen rows.items all ∙ ap (map (f t)) c.in_ok-page.ensures) c.read_rows_of_ages.ensures.read
