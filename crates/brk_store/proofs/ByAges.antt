@@ -1,6 +1,6 @@
 -- Rows that are read by their ages.
-use Rattle.std.proofs.Common.{◌≡◌, ◌∙◌, ◌+◌, ◌<◌, ◌≤◌, ℕ, zero, suc, Bool, true, false, List, [], ◌∷◌, ◌++◌, Option, Some, None, Result, Ok, Err, IfOk, OnOk, IsTrue, cond, filter, get_or, length, map, take, drop, slice_get, refl, sym, ap, ap₂, subst, arith}
-use Rattle.std.proofs.lemmas.List.{append-nil, length-drop, take-append-drop, take_all, take_more}
+use Rattle.std.proofs.Common.{◌≡◌, ◌∙◌, ◌+◌, ◌<◌, ◌≤◌, ℕ, zero, suc, Bool, true, false, List, [], ◌∷◌, ◌++◌, Option, Some, None, Result, Ok, Err, IfOk, OnOk, IsTrue, get_or, length, map, take, drop, slice_get, refl, sym, ap, ap₂, subst, arith}
+use Rattle.std.proofs.lemmas.List.{length-drop, take_all, take_more}
 use Rattle.sqlite_trees.specs.declared.store.Store.{Ghosts}
 use Rattle.sqlite.specs.Held.{Held, state}
 use Rattle.sqlite.specs.State.{HasCleanDisk}
@@ -143,54 +143,3 @@ take_none (suc n) (x ∷ xs) e = absurd (let f = e in cc)
 pub no_ages : (lifo : Bool) (skipped most : ℕ) → take most (drop skipped (in_closing_order {X = LotAge} lifo [])) ≡ []
 no_ages true skipped most = take_none most (drop skipped []) (drop_none skipped [] refl)
 no_ages false skipped most = take_none most (drop skipped []) (drop_none skipped [] refl)
-
-pub none_of_none : (p : LotAge → Bool) (most : ℕ) → take most (filter p []) ≡ []
-none_of_none p most = take_none most [] refl
-
--- ---- the ages that pass a test
-
--- one more age is looked at
-looked_at : (ages : List LotAge) (i : ℕ) (age : LotAge) → i < length ages → age ≡ get_or ages i age → take (i + 1) ages ≡ take i ages ++ age ∷ []
-looked_at ages i age inside is = take_more ages i age inside ∙ sym (ap (λ z. take i ages ++ z ∷ []) is)
-
-filter_pushed : (p : LotAge → Bool) (ages : List LotAge) (age : LotAge) → filter p (ages ++ age ∷ []) ≡ filter p ages ++ cond (p age) (age ∷ []) []
-filter_pushed p [] age = refl
-filter_pushed p (a ∷ ages) age = go (p a) (filter_pushed p ages age)
-  where
-    go : (b : Bool) → filter p (ages ++ age ∷ []) ≡ filter p ages ++ cond (p age) (age ∷ []) []
-        → cond b (a ∷ filter p (ages ++ age ∷ [])) (filter p (ages ++ age ∷ [])) ≡ cond b (a ∷ filter p ages) (filter p ages) ++ cond (p age) (age ∷ []) []
-    go true same = ap (λ l. a ∷ l) same
-    go false same = same
-
-pub one_passes : (p : LotAge → Bool) (ages : List LotAge) (i : ℕ) (age : LotAge) → i < length ages → age ≡ get_or ages i age → p age ≡ true
-    → filter p (take (i + 1) ages) ≡ filter p (take i ages) ++ age ∷ []
-one_passes p ages i age inside is passes =
-    ap (filter p) (looked_at ages i age inside is) ∙ filter_pushed p (take i ages) age ∙ ap (λ b. filter p (take i ages) ++ cond b (age ∷ []) []) passes
-
-pub one_fails : (p : LotAge → Bool) (ages : List LotAge) (i : ℕ) (age : LotAge) → i < length ages → age ≡ get_or ages i age → p age ≡ false
-    → filter p (take (i + 1) ages) ≡ filter p (take i ages)
-one_fails p ages i age inside is fails =
-    ap (filter p) (looked_at ages i age inside is) ∙ filter_pushed p (take i ages) age ∙ ap (λ b. filter p (take i ages) ++ cond b (age ∷ []) []) fails ∙ append-nil (filter p (take i ages))
-
--- enough have passed, or all were looked at
-pub enough : (p : LotAge → Bool) (ages : List LotAge) (i most : ℕ) → most ≤ length (filter p (take i ages)) → length (filter p (take i ages)) ≤ most
-    → filter p (take i ages) ≡ take most (filter p ages)
-enough p ages i most least few =
-    let first = filter p (take i ages) in
-    let whole : filter p ages ≡ first ++ filter p (drop i ages) = ap (filter p) (sym (take-append-drop i ages)) ∙ filter_append p (take i ages) (drop i ages) in
-    sym (ap (take most) whole ∙ take_first most first (filter p (drop i ages)) (omega (arith, least, few)))
-  where
-    filter_append : (p : LotAge → Bool) (xs ys : List LotAge) → filter p (xs ++ ys) ≡ filter p xs ++ filter p ys
-    filter_append p [] ys = refl
-    filter_append p (x ∷ xs) ys = go (p x) (filter_append p xs ys)
-      where
-        go : (b : Bool) → filter p (xs ++ ys) ≡ filter p xs ++ filter p ys → cond b (x ∷ filter p (xs ++ ys)) (filter p (xs ++ ys)) ≡ cond b (x ∷ filter p xs) (filter p xs) ++ filter p ys
-        go true same = ap (λ l. x ∷ l) same
-        go false same = same
-
-    take_first : (n : ℕ) (xs ys : List LotAge) → length xs ≡ n → take n (xs ++ ys) ≡ xs
-    take_first zero [] [] e = refl
-    take_first zero [] (y ∷ ys) e = refl
-    take_first zero (x ∷ xs) ys e = absurd (omega (arith, e))
-    take_first (suc n) [] ys e = absurd (omega (arith, e))
-    take_first (suc n) (x ∷ xs) ys e = ap (λ l. x ∷ l) (take_first n xs ys (omega (arith, e)))

@@ -9,7 +9,5 @@ pub mod TradesFound
 pub mod KeptIndex
 pub mod AdoptedReads
 pub mod ByAges
-pub mod FromEnds
-pub mod FoundRows
 pub mod ByIndex
 pub mod Definitions

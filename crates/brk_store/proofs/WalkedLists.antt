@@ -43,7 +43,7 @@ abbrev pub IsStrictlyAscendingBy : {X : Type 0} → (X → ℕ) → List X → T
 IsStrictlyAscendingBy n [] = ⊤
 IsStrictlyAscendingBy n (x ∷ xs) = AllByRecursion (λ y. nat_lt (n x) (n y) ≡ true) xs × IsStrictlyAscendingBy n xs
 
-pub All-of : {X : Type 0} (P Q : X → Type 0) (xs : List X) → ((x : X) → P x → Q x) → AllByRecursion P xs → AllByRecursion Q xs
+All-of : {X : Type 0} (P Q : X → Type 0) (xs : List X) → ((x : X) → P x → Q x) → AllByRecursion P xs → AllByRecursion Q xs
 All-of P Q [] f h = tt
 All-of P Q (x ∷ xs) f h = (f x h.0, All-of P Q xs f h.1)
 

@@ -1,10 +1,9 @@
-//! Some of the ages of a group of rows, by their places from an end or by their stamps.
+//! Some of the ages of a group of rows, by their places from an end.
 
-ghost use Rattle.std.specs.Prelude.{◌≡◌, ◌&&◌, ◌+◌, ◌<◌, ◌≤◌, ◌^◌, IfOk, drop, filter, nat_le, take};
+ghost use Rattle.std.specs.Prelude.{◌≡◌, ◌+◌, ◌<◌, ◌^◌, IfOk, drop, take};
 ghost use Rattle.std.specs.Option.{option_copied};
 ghost use Rattle.brk_store_lots.specs.Ages.{ages_in, in_closing_order};
 
-use brk_money::Stamp;
 use brk_store_lots::LotAge;
 use brk_store_lots::ages::age_in_closing_order;
 use std::alloc::{AllocError, Global};
@@ -44,50 +43,6 @@ pub(crate) fn choose_ages(
 {
     match ages {
         Some(ages) => ages_from_end(alloc, ages, newest_first, skipped, most),
-        None => Ok(Vec::new(alloc)),
-    }
-}
-
-fn is_between(age: &LotAge, first: Stamp, last: Stamp) -> bool
-    ensures { result ≡ (nat_le first age.now.stamp && nat_le age.now.stamp last) }
-{
-    first.get() <= age.stamp.get() && age.stamp.get() <= last.get()
-}
-
-fn ages_between(
-    alloc: Global,
-    ages: &VecDeque<LotAge>,
-    first: Stamp,
-    last: Stamp,
-    most: usize,
-) -> Result<Vec<LotAge>, AllocError>
-    ensures { IfOk result (λ chosen. chosen.items ≡ take most (filter (λ age. nat_le first age.stamp && nat_le age.stamp last) ages.now.items)) }
-{
-    let mut chosen = Vec::new(alloc);
-    for place in 0..ages.len() {
-        if chosen.len() >= most {
-            return Ok(chosen);
-        }
-        let age = ages[place];
-        if is_between(&age, first, last) {
-            chosen.push(age)?;
-        }
-    }
-    Ok(chosen)
-}
-
-/// Returns the first `most` ages whose stamps are from `first` to `last`, both included.
-pub(crate) fn choose_ages_between(
-    alloc: Global,
-    ages: Option<&VecDeque<LotAge>>,
-    first: Stamp,
-    last: Stamp,
-    most: usize,
-) -> Result<Vec<LotAge>, AllocError>
-    ensures { IfOk result (λ chosen. chosen.items ≡ take most (filter (λ age. nat_le first age.stamp && nat_le age.stamp last) (ages_in (option_copied ages.entry)))) }
-{
-    match ages {
-        Some(ages) => ages_between(alloc, ages, first, last, most),
         None => Ok(Vec::new(alloc)),
     }
 }
