@@ -5,8 +5,8 @@ use Rattle.sqlite_trees.specs.declared.store.Store.{Ghosts}
 use Rattle.sqlite.specs.Held.{Held, state}
 use Rattle.sqlite.specs.State.{HasCleanDisk}
 use Rattle.brk_model.specs.Tables.{Tables}
-use Rattle.brk_store_lots.specs.Ages.{in_closing_order}
-use Rattle.brk_store_lots.specs.declared.age.LotAge.{LotAge}
+use Rattle.brk_store_index.specs.Ages.{in_order}
+use Rattle.brk_store_index.specs.declared.age.RowAge.{RowAge}
 use Rattle.brk_store_transactions.specs.Holds.{HoldsRows, ReadPost}
 use Rattle.brk_store.specs.Indexed.{AreRowsOfAges}
 use Rattle.brk_store.specs.ReadSequences.{IsUnchangedByReads, ReadSequencePost, disk_was_clean_before_reads, joined_reads_change_nothing, single_read_changes_nothing}
@@ -104,10 +104,10 @@ no_age es n none m k most sum within =
 
 -- ---- the rows of ages
 
-pub no_row : {X : Type 0} (IsRowOf : LotAge → X → Type 0) (rows : List X) → rows ≡ [] → AreRowsOfAges IsRowOf [] rows
+pub no_row : {X : Type 0} (IsRowOf : RowAge → X → Type 0) (rows : List X) → rows ≡ [] → AreRowsOfAges IsRowOf [] rows
 no_row IsRowOf rows none = subst (AreRowsOfAges IsRowOf []) (sym none) tt
 
-both_pushed : {X : Type 0} (IsRowOf : LotAge → X → Type 0) (ages : List LotAge) (age : LotAge) (rows : List X) (row : X) → AreRowsOfAges IsRowOf ages rows → IsRowOf age row
+both_pushed : {X : Type 0} (IsRowOf : RowAge → X → Type 0) (ages : List RowAge) (age : RowAge) (rows : List X) (row : X) → AreRowsOfAges IsRowOf ages rows → IsRowOf age row
     → AreRowsOfAges IsRowOf (ages ++ age ∷ []) (rows ++ row ∷ [])
 both_pushed IsRowOf [] age [] row all is = (is, tt)
 both_pushed IsRowOf [] age (r ∷ rows) row all is = absurd all
@@ -115,7 +115,7 @@ both_pushed IsRowOf (a ∷ ages) age [] row all is = absurd all
 both_pushed IsRowOf (a ∷ ages) age (r ∷ rows) row all is = (all.0, both_pushed IsRowOf ages age rows row all.1 is)
 
 -- the row of one more age
-pub one_row : {X : Type 0} (IsRowOf : LotAge → X → Type 0) (ages : List LotAge) (i : ℕ) (age : LotAge) (rows more : List X) (row : X) → i < length ages → age ≡ get_or ages i age
+pub one_row : {X : Type 0} (IsRowOf : RowAge → X → Type 0) (ages : List RowAge) (i : ℕ) (age : RowAge) (rows more : List X) (row : X) → i < length ages → age ≡ get_or ages i age
     → more ≡ rows ++ row ∷ [] → AreRowsOfAges IsRowOf (take i ages) rows → IsRowOf age row → AreRowsOfAges IsRowOf (take (i + 1) ages) more
 one_row IsRowOf ages i age rows more row inside is pushed all found =
     let next : take (i + 1) ages ≡ take i ages ++ age ∷ [] = take_more ages i age inside ∙ sym (ap (λ z. take i ages ++ z ∷ []) is) in
@@ -123,23 +123,23 @@ one_row IsRowOf ages i age rows more row inside is pushed all found =
     (subst (λ l. AreRowsOfAges IsRowOf l (rows ++ row ∷ [])) (sym next) (both_pushed IsRowOf (take i ages) age rows row all found))
 
 -- the rows are those that a look-up finds of the ages
-pub found_of_ages : {X Y : Type 0} (h : X → Y) (f : LotAge → Option Y) (ages : List LotAge) (rows : List X) → AreRowsOfAges (λ age row. Some (h row) ≡ f age) ages rows
+pub found_of_ages : {X Y : Type 0} (h : X → Y) (f : RowAge → Option Y) (ages : List RowAge) (rows : List X) → AreRowsOfAges (λ age row. Some (h row) ≡ f age) ages rows
     → map Some (map h rows) ≡ map f ages
 found_of_ages h f [] [] all = refl
 found_of_ages h f [] (r ∷ rows) all = absurd all
 found_of_ages h f (a ∷ ages) [] all = absurd all
 found_of_ages h f (a ∷ ages) (r ∷ rows) all = ap₂ ◌∷◌ all.0 (found_of_ages h f ages rows all.1)
 
-drop_none : (n : ℕ) (xs : List LotAge) → xs ≡ [] → drop n xs ≡ []
+drop_none : (n : ℕ) (xs : List RowAge) → xs ≡ [] → drop n xs ≡ []
 drop_none zero xs e = e
 drop_none (suc n) [] e = refl
 drop_none (suc n) (x ∷ xs) e = absurd (let f = e in cc)
 
-take_none : (n : ℕ) (xs : List LotAge) → xs ≡ [] → take n xs ≡ []
+take_none : (n : ℕ) (xs : List RowAge) → xs ≡ [] → take n xs ≡ []
 take_none zero xs e = refl
 take_none (suc n) [] e = refl
 take_none (suc n) (x ∷ xs) e = absurd (let f = e in cc)
 
-pub no_ages : (lifo : Bool) (skipped most : ℕ) → take most (drop skipped (in_closing_order {X = LotAge} lifo [])) ≡ []
+pub no_ages : (lifo : Bool) (skipped most : ℕ) → take most (drop skipped (in_order {X = RowAge} lifo [])) ≡ []
 no_ages true skipped most = take_none most (drop skipped []) (drop_none skipped [] refl)
 no_ages false skipped most = take_none most (drop skipped []) (drop_none skipped [] refl)

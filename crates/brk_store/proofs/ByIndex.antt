@@ -11,22 +11,22 @@ use Rattle.brk_ref.specs.Rows.{abstract_holding_row, lots_oldest_first}
 use Rattle.brk_ref.specs.declared.holding_row.HoldingRow as row
 use Rattle.brk_tables_trading.specs.Pages.{page_after_skipped}
 use Rattle.brk_tables.proofs.OneTables.{one_tables}
-use Rattle.brk_store_lots.specs.declared.age.LotAge.{LotAge}
-use Rattle.brk_store_lots.specs.declared.index.LotIndex.{LotIndex}
-use Rattle.brk_store_lots.specs.Ages.{IsIndexOf, in_closing_order, lots_at}
-use Rattle.brk_store_lots.proofs.Ordered.{page_found}
+use Rattle.brk_store_index.specs.declared.age.RowAge.{RowAge}
+use Rattle.brk_store_index.specs.declared.index.RowIndex.{RowIndex}
+use Rattle.brk_store_index.specs.Ages.{IsIndexOf, in_order, lots_at}
+use Rattle.brk_store_index.proofs.Ordered.{page_found}
 use Rattle.brk_store_transactions.specs.Holds.{HoldsRows}
 use Rattle.brk_store.specs.Indexed.{HasRowOfEachAge, IndexIsTrue}
 use Rattle.brk_store.specs.Pages.{lot_rows_in_closing_order}
 use Rattle.brk_store.specs.declared.index.StoreIndex.TheVariants.{Made}
 use Rattle.brk_store.proofs.WalkedLists.{holdings_climb}
 
-same_order : {X : Type 0} (lifo : Bool) (xs : List X) → in_closing_order lifo xs ≡ list_reversed_if_lifo lifo xs
+same_order : {X : Type 0} (lifo : Bool) (xs : List X) → in_order lifo xs ≡ list_reversed_if_lifo lifo xs
 same_order true xs = refl
 same_order false xs = refl
 
-pub page_of_index : {S : Type 0} (g : Ghosts S) (conn : Held S) (index : LotIndex) → IndexIsTrue g conn (Made index) → HasCleanDisk (state g conn)
-    → IsTrue (state g conn).is_open → (account : ℕ) (symbol : Text) (lifo : Bool) (skipped : ℕ) (ages : List LotAge) → ages ≡ lots_at index account symbol
+pub page_of_index : {S : Type 0} (g : Ghosts S) (conn : Held S) (index : RowIndex) → IndexIsTrue g conn (Made index) → HasCleanDisk (state g conn)
+    → IsTrue (state g conn).is_open → (account : ℕ) (symbol : Text) (lifo : Bool) (skipped : ℕ) (ages : List RowAge) → ages ≡ lots_at index account symbol
     → (page : List row.HoldingRow) (t : Tables) → HoldsRows g conn t → HasRowOfEachAge account symbol lifo skipped ages page t
     → map abstract_holding_row page ≡ page_after_skipped skipped (lot_rows_in_closing_order lifo account symbol t)
 page_of_index g conn index is clean on account symbol lifo skipped ages all page t holds shown =

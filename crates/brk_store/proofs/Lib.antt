@@ -10,4 +10,5 @@ pub mod KeptIndex
 pub mod AdoptedReads
 pub mod ByAges
 pub mod ByIndex
+pub mod TradesByIndex
 pub mod Definitions

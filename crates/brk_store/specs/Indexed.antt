@@ -10,17 +10,18 @@ use Rattle.brk_ref.specs.Rows.{abstract_holding_row}
 use Rattle.brk_ref.specs.declared.holding_row.HoldingRow as row
 use Rattle.brk_tables_trading.specs.Pages.{page_size}
 use Rattle.brk_tables_schema.specs.Made.{HasDeskTables}
-use Rattle.brk_store_lots.specs.Ages.{IsIndexOf, in_closing_order, lot_of_age}
-use Rattle.brk_store_lots.specs.declared.age.LotAge.{LotAge}
+use Rattle.brk_store_index.specs.Ages.{in_order}
+use Rattle.brk_store_index.specs.Index.{IsIndexOf, lot_of_age}
+use Rattle.brk_store_index.specs.declared.age.RowAge.{RowAge}
 use Rattle.brk_store.specs.declared.index.StoreIndex.{StoreIndex}
 use Rattle.brk_store.specs.declared.index.StoreIndex.TheVariants.{Absent, Made, Unmade}
 
 -- The database `db` has the tables of a desk with some rows, and an index that was made has exactly
--- their lots. Of an index that is absent nothing is said.
+-- their rows. Of an index that is absent nothing is said.
 abbrev pub IsIndexOfDatabase : StoreIndex → Database → Type 0
 IsIndexOfDatabase Absent db = ⊤
 IsIndexOfDatabase Unmade db = (t : Tables) × HasDeskTables t db
-IsIndexOfDatabase (Made index) db = (t : Tables) × HasDeskTables t db × IsIndexOf index t.holdings
+IsIndexOfDatabase (Made index) db = (t : Tables) × HasDeskTables t db × IsIndexOf index t
 
 -- The index is that of the current database of the connection (`IsIndexOfDatabase`). Vacuous if the
 -- disk assumption fails, or once the database is closed.
@@ -28,7 +29,7 @@ pub record IndexIsTrue {S : Type 0} (g : Ghosts S) (conn : Held S) (index : Stor
   pub indexed : HasCleanDisk (state g conn) → IsTrue (state g conn).is_open → IsIndexOfDatabase index (state g conn).now
 
 -- Each row has the age at its place, as `IsRowOf` says, and there are no more of either.
-abbrev pub AreRowsOfAges : {X : Type 0} → (LotAge → X → Type 0) → List LotAge → List X → Type 0
+abbrev pub AreRowsOfAges : {X : Type 0} → (RowAge → X → Type 0) → List RowAge → List X → Type 0
 AreRowsOfAges IsRowOf [] [] = ⊤
 AreRowsOfAges IsRowOf (age ∷ ages) (row ∷ rows) = IsRowOf age row × AreRowsOfAges IsRowOf ages rows
 AreRowsOfAges IsRowOf [] (row ∷ rows) = ⊥
@@ -36,6 +37,6 @@ AreRowsOfAges IsRowOf (age ∷ ages) [] = ⊥
 
 -- The page has one row for each age after the first `skipped` in the order of closing, at most 16: the
 -- row of its lot, a lot of `account` in the security `symbol`.
-abbrev pub HasRowOfEachAge : ℕ → Text → Bool → ℕ → List LotAge → List row.HoldingRow → Tables → Type 0
+abbrev pub HasRowOfEachAge : ℕ → Text → Bool → ℕ → List RowAge → List row.HoldingRow → Tables → Type 0
 HasRowOfEachAge account symbol lifo skipped ages page t =
-    map Some (map abstract_holding_row page) ≡ map (lot_of_age t.holdings account symbol) (take page_size (drop skipped (in_closing_order lifo ages)))
+    map Some (map abstract_holding_row page) ≡ map (lot_of_age t.holdings account symbol) (take page_size (drop skipped (in_order lifo ages)))

@@ -3,8 +3,9 @@
 ghost use Rattle.std.specs.Prelude.{◌≡◌, IsTrue, false, map, true};
 ghost use Rattle.sqlite.specs.Effect.{Database};
 ghost use Rattle.brk_trade_rows.specs.Changes.{tables_after_changes};
-ghost use Rattle.brk_ref.specs.Rows.{abstract_holding_row};
-ghost use Rattle.brk_store_lots.specs.Ages.{IsIndexOf};
+ghost use Rattle.brk_ref.specs.Records.{abstract_account_row};
+ghost use Rattle.brk_ref.specs.Rows.{abstract_holding_row, abstract_lot_change_row, abstract_trade_row};
+ghost use Rattle.brk_store_index.specs.Index.{IsIndexOf};
 ghost use Rattle.brk_model.specs.Tables.{Tables};
 ghost use Rattle.brk_store_transactions.specs.Holds.{ReadPost};
 ghost use Rattle.brk_store.specs.Indexed.{IndexIsTrue, IsIndexOfDatabase};
@@ -14,8 +15,8 @@ ghost use Rattle.brk_tables_schema.specs.Made.{HasDeskTables};
 
 use crate::Store;
 use brk_money::CallFault;
-use brk_ref::HoldingRow;
-use brk_store_lots::LotIndex;
+use brk_ref::{AccountRow, HoldingRow, LotChange, TradeRow};
+use brk_store_index::RowIndex;
 use brk_store_transactions::begin_transaction;
 use brk_trade_rows::Change;
 use sqlite::{Alter, Connection};
@@ -26,7 +27,7 @@ use std::alloc::Global;
 pub(crate) enum StoreIndex {
     // The database has the tables of a desk. The first read that could use the index makes it.
     Unmade,
-    Made(LotIndex),
+    Made(RowIndex),
     // Reads scan the tables.
     Absent,
 }
@@ -59,14 +60,56 @@ fn read_all_lots<S: Alter>(
     brk_tables_trading::all_lots(&mut tx, alloc)
 }
 
-// Fails with `Memory` also if two lots have one trade.
-fn read_lot_index<S: Alter>(conn: &mut Connection<S>, alloc: Global) -> Result<LotIndex, CallFault>
+#[tactic(auto, using(brk_store_transactions::proofs::Ending::read_is_over))]
+fn read_all_trades<S: Alter>(
+    conn: &mut Connection<S>,
+    alloc: Global,
+) -> Result<Vec<TradeRow>, CallFault>
     requires { conn.old.in_transaction ≡ false }
     ensures mode { conn.new.in_transaction ≡ false }
-    ensures read { ReadPost S.Store conn.old conn.new result (λ index t. IsIndexOf index t.holdings) }
+    ensures read { ReadPost S.Store conn.old conn.new result (λ all t. map abstract_trade_row all.items ≡ t.trades) }
 {
-    let rows = read_all_lots(conn, alloc)?;
-    match LotIndex::of_rows(alloc, &rows) {
+    let mut tx = begin_transaction(conn);
+    brk_tables_trading::all_trades(&mut tx, alloc)
+}
+
+#[tactic(auto, using(brk_store_transactions::proofs::Ending::read_is_over))]
+fn read_all_accounts<S: Alter>(
+    conn: &mut Connection<S>,
+    alloc: Global,
+) -> Result<Vec<AccountRow>, CallFault>
+    requires { conn.old.in_transaction ≡ false }
+    ensures mode { conn.new.in_transaction ≡ false }
+    ensures read { ReadPost S.Store conn.old conn.new result (λ all t. map abstract_account_row all.items ≡ t.accounts) }
+{
+    let mut tx = begin_transaction(conn);
+    brk_tables_reference::all_accounts(&mut tx, alloc)
+}
+
+#[tactic(auto, using(brk_store_transactions::proofs::Ending::read_is_over))]
+fn read_all_lot_changes<S: Alter>(
+    conn: &mut Connection<S>,
+    alloc: Global,
+) -> Result<Vec<LotChange>, CallFault>
+    requires { conn.old.in_transaction ≡ false }
+    ensures mode { conn.new.in_transaction ≡ false }
+    ensures read { ReadPost S.Store conn.old conn.new result (λ all t. map abstract_lot_change_row all.items ≡ t.holding_history) }
+{
+    let mut tx = begin_transaction(conn);
+    brk_tables_views::all_lot_changes(&mut tx, alloc)
+}
+
+// Fails with `Memory` also if two rows of a table have one key.
+fn read_row_index<S: Alter>(conn: &mut Connection<S>, alloc: Global) -> Result<RowIndex, CallFault>
+    requires { conn.old.in_transaction ≡ false }
+    ensures mode { conn.new.in_transaction ≡ false }
+    ensures read { ReadPost S.Store conn.old conn.new result IsIndexOf }
+{
+    let lots = read_all_lots(conn, alloc)?;
+    let trades = read_all_trades(conn, alloc)?;
+    let accounts = read_all_accounts(conn, alloc)?;
+    let changes = read_all_lot_changes(conn, alloc)?;
+    match RowIndex::of_rows(alloc, &lots, &trades, &accounts, &changes) {
         Ok(index) => Ok(index),
         Err(_) => Err(CallFault::Memory),
     }
@@ -80,7 +123,7 @@ pub(crate) fn read_index<S: Alter>(conn: &mut Connection<S>, alloc: Global) -> S
     ensures unchanged { IsUnchangedByReads S.Store conn.old conn.new }
     ensures index { IndexIsTrue S.Store conn.old Unmade → IndexIsTrue S.Store conn.new result }
 {
-    match read_lot_index(conn, alloc) {
+    match read_row_index(conn, alloc) {
         Ok(index) => StoreIndex::Made(index),
         Err(_) => StoreIndex::Absent,
     }

@@ -2,6 +2,7 @@
 //! rows, and changes of its rows in transactions.
 #![tactic(auto)]
 
+mod accounts_by_age;
 mod adoption;
 mod brokers;
 mod by_age;
@@ -18,6 +19,7 @@ pub mod store;
 mod terms;
 mod trade_lists;
 mod trades;
+mod trades_by_age;
 mod trades_by_id;
 mod trades_by_stamp;
 mod updates;

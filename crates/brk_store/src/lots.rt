@@ -3,19 +3,19 @@
 ghost use Rattle.std.specs.Prelude.{◌≡◌, ◌==◌, ◌&&◌, Some, bytes_eq, false};
 ghost use Rattle.std.specs.Option.{option_copied};
 ghost use Rattle.brk_ref.specs.Rows.{abstract_holding_row};
-ghost use Rattle.brk_store_lots.specs.Ages.{ages_in, lot_of_age};
+ghost use Rattle.brk_store_index.specs.Ages.{ages_in};
+ghost use Rattle.brk_store_index.specs.Index.{lot_of_age};
 ghost use Rattle.brk_store_transactions.specs.Holds.{ReadPost};
 ghost use Rattle.brk_store.specs.Indexed.{HasRowOfEachAge};
 ghost use Rattle.brk_tables_schema.specs.Desk.{Holdings};
 ghost use Rattle.brk_tables_schema.specs.Statements.{IsFirstMatch};
 
 use crate::Store;
-use crate::by_age::{RowsByAge, read_rows_of_ages};
-use crate::chosen_ages::choose_ages;
+use crate::by_age::{RowsByAge, read_chosen_rows};
 use crate::index::StoreIndex;
 use brk_money::{CallFault, Id, Stamp, StoreFailed};
 use brk_ref::{HoldingRow, Symbol};
-use brk_store_lots::LotAge;
+use brk_store_index::{Group, RowAge};
 use brk_store_transactions::begin_transaction;
 use sqlite::{Alter, Connection};
 use std::alloc::Global;
@@ -59,9 +59,9 @@ impl<S: Alter> RowsByAge<S, HoldingRow> for LotsOfPosition<'_> {
     fn row_of_age(
         &self,
         conn: &mut Connection<S>,
-        age: &LotAge,
+        age: &RowAge,
     ) -> Result<HoldingRow, StoreFailed> {
-        let Some(row) = read_lot_by_trade(conn, age.trade)? else {
+        let Some(row) = read_lot_by_trade(conn, age.id)? else {
             return Err(StoreFailed);
         };
         if !is_lot_of_position(&row, self.account, self.symbol, age.stamp) {
@@ -79,14 +79,14 @@ fn read_indexed_page<S: Alter>(
     symbol: &Symbol,
     lifo: bool,
     skipped: u32,
-    ages: Option<&VecDeque<LotAge>>,
+    ages: Option<&VecDeque<RowAge>>,
 ) -> Result<Vec<HoldingRow>, CallFault>
     requires { conn.old.in_transaction ≡ false }
     ensures mode { conn.new.in_transaction ≡ false }
     ensures read { ReadPost S.Store conn.old conn.new result (λ page t. HasRowOfEachAge account symbol.now lifo skipped (ages_in (option_copied ages.entry)) page.items t) }
 {
-    let page = choose_ages(alloc, ages, lifo, skipped as usize, PAGE_SIZE)?;
-    read_rows_of_ages(conn, alloc, &LotsOfPosition { account, symbol }, &page)
+    let lots = LotsOfPosition { account, symbol };
+    read_chosen_rows(conn, alloc, &lots, ages, lifo, skipped as usize, PAGE_SIZE)
 }
 
 impl<S: Alter> Store<S> {
@@ -128,7 +128,7 @@ impl<S: Alter> Store<S> {
             ≡ page_after_skipped skipped (lot_rows_in_closing_order lifo account symbol.now t)) }
     {
         if let StoreIndex::Made(index) = &self.index {
-            if index.len() > MOST_SCANNED_LOTS {
+            if index.number_of_lots() > MOST_SCANNED_LOTS {
                 return read_indexed_page(
                     &mut self.conn,
                     alloc,
@@ -136,7 +136,7 @@ impl<S: Alter> Store<S> {
                     symbol,
                     lifo,
                     skipped,
-                    index.ages_of_position(account, symbol),
+                    index.ages(&Group::Position(account, symbol)),
                 );
             }
         }

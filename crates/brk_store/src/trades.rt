@@ -17,8 +17,12 @@ ghost use Rattle.brk_tables_schema.specs.Statements.{IsFirstMatch, AreMatchingRo
 ghost use Rattle.brk_tables_trading.specs.Pages.{position_lots_by_age, page_after_skipped};
 
 use crate::Store;
+use crate::by_age::read_all_rows;
+use crate::index::StoreIndex;
+use crate::trades_by_age::SubmittedTrades;
 use brk_money::{CallFault, Fault, Id, Price, StoreFailed, TradeType};
 use brk_ref::{HoldingRow, LastTrade, RequestRow, SummaryRow, Symbol, TradeRow};
+use brk_store_index::Group;
 use brk_store_transactions::begin_transaction;
 use sqlite::Alter;
 use std::alloc::Global;
@@ -44,6 +48,10 @@ impl<S: Alter> Store<S> {
     pub fn submitted_trades(&mut self, alloc: Global) -> Result<Vec<TradeRow>, CallFault>
         ensures read { ReadPost S.Store self.old self.new result (AreMatchingRows Trades abstract_trade_row (λ r. is_same_trade_status r.status Submitted)) }
     {
+        if let StoreIndex::Made(index) = &self.index {
+            let ages = index.ages(&Group::SubmittedTrades);
+            return read_all_rows(&mut self.conn, alloc, &SubmittedTrades, ages);
+        }
         let mut tx = begin_transaction(&mut self.conn);
         brk_tables_trading::submitted_trades(&mut tx, alloc)
     }

@@ -3,7 +3,7 @@ use Rattle.std.specs.Global.{Vec}
 use Rattle.std.specs.Option.{option_copied}
 use Rattle.brk_ref.specs.Rows.{abstract_holding_row}
 use Rattle.brk_ref.specs.declared.holding_row.HoldingRow as row
-use Rattle.brk_store_lots.specs.Ages.{ages_in, lot_of_age}
+use Rattle.brk_store_index.specs.Ages.{ages_in, lot_of_age}
 use Rattle.brk_model.specs.Tables.{Tables}
 use Rattle.brk_store.specs.Indexed.{AreRowsOfAges, HasRowOfEachAge}
 use Rattle.brk_store.proofs.ByAges.{found_of_ages, read_weaker}

@@ -1,7 +1,7 @@
 use Rattle.std.proofs.Common.{◌≡◌, ◌∙◌, ◌==◌, ◌&&◌, Some, ap, find, option_map, refl, rules, true}
 use Rattle.std.specs.Prelude.{bytes_eq}
 use Rattle.brk_ref.specs.Rows.{abstract_holding_row}
-use Rattle.brk_store_lots.specs.Ages.{lot_of_age, value_if}
+use Rattle.brk_store_index.specs.Ages.{lot_of_age, value_if}
 use Rattle.brk_model.specs.Tables.{HoldingRow, Tables}
 use Rattle.brk_store.specs.ReadSequences.{single_read_changes_nothing}
 use Rattle.brk_store.proofs.Retelling.{retold}

@@ -3,7 +3,7 @@ use Rattle.std.specs.Option.{option_copied}
 use Rattle.std.specs.Global.{Vec}
 use Rattle.brk_ref.specs.Rows.{abstract_holding_row}
 use Rattle.brk_ref.specs.declared.holding_row.HoldingRow as row
-use Rattle.brk_store_lots.specs.Ages.{ages_in}
+use Rattle.brk_store_index.specs.Ages.{ages_in}
 use Rattle.brk_model.specs.Tables.{Tables}
 use Rattle.brk_tables_trading.specs.Pages.{page_after_skipped}
 use Rattle.brk_store_transactions.specs.Holds.{ReadPost}
