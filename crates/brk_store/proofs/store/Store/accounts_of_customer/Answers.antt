@@ -1,0 +1,30 @@
+use Rattle.std.proofs.Common.{◌≡◌, ◌==◌, Some, filter, map, subst}
+use Rattle.std.specs.Global.{Vec}
+use Rattle.brk_model.specs.Tables.{Tables, AccountRow}
+use Rattle.brk_ref.specs.Records.{abstract_account_row}
+use Rattle.brk_ref.specs.declared.account.AccountRow as row
+use Rattle.brk_store_index.specs.Ages.{in_order}
+use Rattle.brk_store_index.specs.Index.{row_of_age}
+use Rattle.brk_store_index.specs.Index as group
+use Rattle.brk_store_transactions.specs.Holds.{ReadPost}
+use Rattle.brk_store.specs.Indexed.{AreRowsOfAges}
+use Rattle.brk_store.specs.ReadSequences.{disk_was_clean_before_reads, single_read_changes_nothing}
+use Rattle.brk_store.proofs.ByAges.{read_weaker}
+use Rattle.brk_store.proofs.TradesByIndex.{accounts_of_index}
+use Rattle.brk_store.proofs.store.Store.accounts_of_customer.Goals as goal
+
+pub returns-in-Made : goal.returns-in-Made
+returns-in-Made g c =
+    let conn = c.self.inside.conn in
+    let end = c.read_all_rows.new.conn in
+    let shows = λ (rows : Vec row.AccountRow) (t : Tables). AreRowsOfAges (λ age r. Some (abstract_account_row r) ≡ row_of_age (λ (r : AccountRow). r.id) (λ a r. r.customer == c.args.customer) t.accounts age) (group.ages_at c.in-Made.index (group.AccountsOfCustomer c.args.customer)) rows.items in
+    let tells = λ (rows : Vec row.AccountRow) (t : Tables). map abstract_account_row rows.items ≡ filter (λ (r : AccountRow). r.customer == c.args.customer) t.accounts in
+    let read : ReadPost g.S.Store conn end c.read_all_rows.result shows = rw c.ages.ensures at c.read_all_rows.ensures.read in
+    record {
+      read = subst (λ h. ReadPost g.S.Store h end c.read_all_rows.result tells) c.self.view_is
+          (read_weaker g.S.Store conn end c.read_all_rows.result shows tells
+          (λ clean on rows t holds shown.
+          accounts_of_index g.S.Store conn c.in-Made.index (rw c.in-Made.is at c.self.invariant.1)
+          (disk_was_clean_before_reads conn end (single_read_changes_nothing conn end c.read_all_rows.result shows read) clean) on t holds c.args.customer rows.items shown)
+          read);
+    }
