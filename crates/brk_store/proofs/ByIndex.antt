@@ -13,8 +13,10 @@ use Rattle.brk_tables_trading.specs.Pages.{page_after_skipped}
 use Rattle.brk_tables.proofs.OneTables.{one_tables}
 use Rattle.brk_store_index.specs.declared.age.RowAge.{RowAge}
 use Rattle.brk_store_index.specs.declared.index.RowIndex.{RowIndex}
-use Rattle.brk_store_index.specs.Ages.{IsIndexOf, in_order, lots_at}
-use Rattle.brk_store_index.proofs.Ordered.{page_found}
+use Rattle.brk_store_index.specs.Ages.{in_order}
+use Rattle.brk_store_index.specs.Index.{IsIndexOf, ages_at}
+use Rattle.brk_store_index.specs.Index as group
+use Rattle.brk_store_index.proofs.PositionLots.{lots_found}
 use Rattle.brk_store_transactions.specs.Holds.{HoldsRows}
 use Rattle.brk_store.specs.Indexed.{HasRowOfEachAge, IndexIsTrue}
 use Rattle.brk_store.specs.Pages.{lot_rows_in_closing_order}
@@ -26,7 +28,7 @@ same_order true xs = refl
 same_order false xs = refl
 
 pub page_of_index : {S : Type 0} (g : Ghosts S) (conn : Held S) (index : RowIndex) → IndexIsTrue g conn (Made index) → HasCleanDisk (state g conn)
-    → IsTrue (state g conn).is_open → (account : ℕ) (symbol : Text) (lifo : Bool) (skipped : ℕ) (ages : List RowAge) → ages ≡ lots_at index account symbol
+    → IsTrue (state g conn).is_open → (account : ℕ) (symbol : Text) (lifo : Bool) (skipped : ℕ) (ages : List RowAge) → ages ≡ ages_at index (group.Position account symbol)
     → (page : List row.HoldingRow) (t : Tables) → HoldsRows g conn t → HasRowOfEachAge account symbol lifo skipped ages page t
     → map abstract_holding_row page ≡ page_after_skipped skipped (lot_rows_in_closing_order lifo account symbol t)
 page_of_index g conn index is clean on account symbol lifo skipped ages all page t holds shown =
@@ -34,6 +36,7 @@ page_of_index g conn index is clean on account symbol lifo skipped ages all page
     let c = is.indexed clean on in
     let has = holds clean on in
     let same : c.0 ≡ t = one_tables c.0 t db c.1 has in
-    page_found t.holdings account symbol (holdings_climb t db has) index (subst (λ (u : Tables). IsIndexOf index u.holdings) same c.2) lifo skipped 16 (map abstract_holding_row page)
+    let all_rows : IsIndexOf index t = subst (IsIndexOf index) same c.2 in
+    lots_found t.holdings (holdings_climb t db has) account symbol (ages_at index (group.Position account symbol)) (all_rows.groups (group.Position account symbol)) lifo skipped 16 (map abstract_holding_row page)
     (subst (λ l. HasRowOfEachAge account symbol lifo skipped l page t) all shown)
     ∙ ap (page_after_skipped skipped) (same_order lifo (lots_oldest_first (filter (λ (r : HoldingRow). (r.account == account) && bytes_eq r.symbol symbol) t.holdings)))

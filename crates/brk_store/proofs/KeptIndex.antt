@@ -18,7 +18,7 @@ use Rattle.brk_store.specs.ReadSequences.{IsUnchangedByReads, disk_was_clean_bef
 use Rattle.brk_store.specs.declared.index.StoreIndex.{StoreIndex}
 use Rattle.brk_store.specs.declared.index.StoreIndex.TheVariants.{Absent, Made, Unmade}
 use Rattle.brk_store_transactions.proofs.Ending.{is_read, with_transaction_open}
-use Rattle.brk_store_index.specs.Ages.{IsIndexOf}
+use Rattle.brk_store_index.specs.Index.{IsIndexOf}
 use Rattle.brk_store_index.specs.declared.index.RowIndex.{RowIndex}
 
 module _ {S : Type 0} (g : Ghosts S) (old new : Held S) (index : StoreIndex) where
@@ -42,7 +42,7 @@ module _ {S : Type 0} (g : Ghosts S) (old new : Held S) (index : StoreIndex) whe
   }
 
 -- The index of all rows that a read returned is that of the database.
-pub index_of_read : {S E : Type 0} (g : Ghosts S) (old new : Held S) (index : RowIndex) → ReadPost {E = E} g old new (Ok index) (λ index t. IsIndexOf index t.holdings)
+pub index_of_read : {S E : Type 0} (g : Ghosts S) (old new : Held S) (index : RowIndex) → ReadPost {E = E} g old new (Ok index) IsIndexOf
     → IndexIsTrue g old Unmade → IndexIsTrue g new (Made index)
 index_of_read g old new index read is = record {
   indexed = λ clean on.

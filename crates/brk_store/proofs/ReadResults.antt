@@ -8,7 +8,7 @@ use Rattle.brk_model.specs.Tables.{Tables}
 use Rattle.brk_store_transactions.specs.Holds.{HoldsRows, ReadPost}
 use Rattle.brk_store.specs.ReadSequences.{IsUnchangedByReads, disk_was_clean_before_reads}
 use Rattle.brk_store.proofs.Retelling.{retold}
-use Rattle.brk_store.proofs.Sequences.{none_then, same_then}
+use Rattle.brk_store.proofs.Sequences.{none_then, read_with, same_then}
 
 module _ {S : Type 0} (g : Ghosts S) (old mid : Held S) where
   -- an answer that follows from what was read; or no memory for it
@@ -17,6 +17,24 @@ module _ {S : Type 0} (g : Ghosts S) (old mid : Held S) where
   decided v P R (Ok x) read tell = retold g old mid v x P R tell read
   decided v P R (Err fault) read none =
       record { answered = λ clean. tt; was_open = λ clean. tt; same_rows = read.same_rows; unchanged_if_open = read.unchanged_if_open; survives = read.survives }
+
+-- an answer that follows from what four reads returned
+pub decided_by_four : {S V W X Y Z E F G H I : Type 0} (g : Ghosts S) (a b c d e : Held S) (v : V) (w : W) (x : X) (y : Y) (P : V → Tables → Type 0) (Q : W → Tables → Type 0) (R : X → Tables → Type 0) (T : Y → Tables → Type 0)
+    (M : Z → Tables → Type 0) (result : Result Z I) → ReadPost {E = E} g a b (Ok v) P → ReadPost {E = F} g b c (Ok w) Q → ReadPost {E = G} g c d (Ok x) R → ReadPost {E = H} g d e (Ok y) T
+    → IfOk result (λ z. (t : Tables) → P v t → Q w t → R x t → T y t → M z t) → ReadPost g a e result M
+decided_by_four {S} {V} {W} {X} {Y} {Z} {E} {F} {G} {H} {I} g a b c d e v w x y P Q R T M result one two three four tell =
+    let PQ = λ (vw : V × W) (t : Tables). P vw.0 t × Q vw.1 t in
+    let PQR = λ (vwx : (V × W) × X) (t : Tables). PQ vwx.0 t × R vwx.1 t in
+    let All = λ (all : ((V × W) × X) × Y) (t : Tables). PQR all.0 t × T all.1 t in
+    let second = read_with g a b c {H = F} v w (v, w) P Q PQ (λ t p q. (p, q)) one two in
+    let third = read_with g a c d {H = G} (v, w) x ((v, w), x) PQ R PQR (λ t p q. (p, q)) second three in
+    let fourth = read_with g a d e {H = H} ((v, w), x) y (((v, w), x), y) PQR T All (λ t p q. (p, q)) third four in
+    decided g a e (((v, w), x), y) All M result fourth (told result tell)
+  where
+    told : (r : Result Z I) → IfOk r (λ z. (t : Tables) → P v t → Q w t → R x t → T y t → M z t)
+        → IfOk r (λ z. (t : Tables) → ((P v t × Q w t) × R x t) × T y t → M z t)
+    told (Ok z) f = λ t h. f t h.0.0.0 h.0.0.1 h.0.1 h.1
+    told (Err i) f = tt
 
 module _ {S : Type 0} (g : Ghosts S) (old mid end : Held S) where
   -- an answer that follows from what was read, and from what was read on in a store that is kept

@@ -1,37 +1,70 @@
 -- Trades, accounts and lot changes that are read by the index are those of the tables.
-use Rattle.std.proofs.Common.{◌≡◌, ◌∙◌, ◌==◌, ◌&&◌, ℕ, Bool, true, false, List, Option, Some, IsTrue, drop, filter, find, map, refl, ap, subst, take, eq-eqb}
-use Rattle.std.specs.Prelude.{bytes_eq, nat_le}
-use Rattle.std.proofs.lemmas.Slice.Eq.{bytes_eq-Decides}
+use Rattle.std.proofs.Common.{◌≡◌, ◌∙◌, ◌==◌, ◌&&◌, ◌-◌, ℕ, zero, suc, Bool, true, false, List, [], ◌∷◌, Some, IsTrue, drop, filter, map, min, refl, sym, ap, subst, take}
+use Rattle.std.specs.Prelude.{nat_le}
 use Rattle.sqlite_trees.specs.declared.store.Store.{Ghosts}
 use Rattle.sqlite.specs.Held.{Held, state}
 use Rattle.sqlite.specs.State.{HasCleanDisk}
 use Rattle.brk_money.specs.Kinds.{is_same_trade_status}
-use Rattle.brk_money.specs.Spelling.{Text}
 use Rattle.brk_money.specs.declared.status.Status.TheVariants.{Submitted}
-use Rattle.brk_model.specs.Joins.{trade_rows_of_account, trade_rows_recent_first}
+use Rattle.brk_model.specs.Joins.{trade_rows_of_account, trade_rows_oldest_first, trade_rows_recent_first}
+use Rattle.brk_model.specs.LookupView.{row_stamp_is_between}
 use Rattle.brk_model.specs.Tables.{AccountRow, Tables, TradeRow}
 use Rattle.brk_ref.specs.Records.{abstract_account_row}
 use Rattle.brk_ref.specs.Rows.{abstract_trade_row}
 use Rattle.brk_ref.specs.declared.account.AccountRow as account
 use Rattle.brk_ref.specs.declared.trade_row.TradeRow as trade
 use Rattle.brk_tables.proofs.OneTables.{one_tables}
-use Rattle.brk_store_index.specs.Ages.{Has, in_order}
-use Rattle.brk_store_index.specs.Index.{IsIndexOf, ages_at, row_of_age}
+use Rattle.brk_store_index.specs.Ages.{AreAgesOf, IsPlaceOfStamp, in_order}
+use Rattle.brk_store_index.specs.Index.{IsIndexOf, ages_at, row_of_age, trade_of_age}
+use Rattle.brk_store_index.specs.Parts.{age_of_trade}
 use Rattle.brk_store_index.specs.Index as group
 use Rattle.brk_store_index.specs.declared.age.RowAge.{RowAge}
 use Rattle.brk_store_index.specs.declared.index.RowIndex.{RowIndex}
 use Rattle.brk_store_index.proofs.Elements.{has_filtered}
-use Rattle.brk_store_index.proofs.Ordered.{age_finds, all_by_id, filtered_rises, recent_page_found}
+use Rattle.brk_store_index.proofs.Ordered.{age_finds, all_by_id, filtered_rises}
+use Rattle.brk_store_index.proofs.TradeLists.{oldest_trades_found, recent_trades_found, trades_between}
 use Rattle.brk_store_transactions.specs.Holds.{HoldsRows}
 use Rattle.brk_store.specs.Indexed.{AreRowsOfAges, IndexIsTrue}
 use Rattle.brk_store.specs.declared.index.StoreIndex.TheVariants.{Made}
 use Rattle.brk_store.proofs.ByAges.{found_of_ages}
 use Rattle.brk_store.proofs.WalkedLists.{accounts_climb, trades_climb}
 
-both : (a b : Bool) → a ≡ true → b ≡ true → (a && b) ≡ true
-both true true p q = refl
-both true false p q = q
-both false b p q = p
+-- a part of a list by its places
+span : {X : Type 0} (n k j : ℕ) (xs : List X) → take (min n (j - k)) (drop k xs) ≡ take n (drop k (take j xs))
+span n zero j xs = cut n j xs
+  where
+    cut : {X : Type 0} (n j : ℕ) (xs : List X) → take (min n (j - 0)) xs ≡ take n (take j xs)
+    cut zero j xs = refl
+    cut (suc n) zero xs = refl
+    cut (suc n) (suc j) [] = refl
+    cut (suc n) (suc j) (x ∷ xs) = ap (λ l. x ∷ l) (cut n j xs)
+span n (suc k) zero xs = none n xs
+  where
+    none : {X : Type 0} (n : ℕ) (xs : List X) → take (min n 0) (drop (suc k) xs) ≡ take n (drop (suc k) (take 0 xs))
+    none zero xs = refl
+    none (suc n) xs = refl
+span n (suc k) (suc j) [] = nothing n
+  where
+    nothing : {X : Type 0} (n : ℕ) → take (min n (suc j - suc k)) (drop (suc k) []) ≡ take n (drop (suc k) (take (suc j) []))
+    nothing n = refl
+span n (suc k) (suc j) (x ∷ xs) = span n k j xs
+
+between_is : (a b : Bool) → (b && a) ≡ (a && b)
+between_is true true = refl
+between_is true false = refl
+between_is false true = refl
+between_is false false = refl
+
+three_tests : {X : Type 0} (p q r s : X → Bool) → ((x : X) → (q x && r x) ≡ s x) → (xs : List X) → filter r (filter q (filter p xs)) ≡ filter (λ x. p x && s x) xs
+three_tests p q r s same [] = refl
+three_tests {X} p q r s same (x ∷ xs) = go (p x) (q x) (r x) refl refl refl (three_tests p q r s same xs)
+  where
+    go : (a b c : Bool) → p x ≡ a → q x ≡ b → r x ≡ c → filter r (filter q (filter p xs)) ≡ filter (λ x. p x && s x) xs
+        → filter r (filter q (filter p (x ∷ xs))) ≡ filter (λ x. p x && s x) (x ∷ xs)
+    go true true true e f h more = rw (e, f, h, sym (same x)) (ap (λ l. x ∷ l) more)
+    go true true false e f h more = rw (e, f, h, sym (same x)) more
+    go true false c e f h more = rw (e, f, sym (same x)) more
+    go false b c e f h more = rw e more
 
 module _ {S : Type 0} (g : Ghosts S) (conn : Held S) (index : RowIndex) (is : IndexIsTrue g conn (Made index)) (clean : HasCleanDisk (state g conn)) (on : IsTrue (state g conn).is_open)
     (t : Tables) (holds : HoldsRows g conn t) where
@@ -42,20 +75,29 @@ module _ {S : Type 0} (g : Ghosts S) (conn : Held S) (index : RowIndex) (is : In
 
   -- the newest trades of an account
   pub newest_of_account : (account most : ℕ) (rows : List trade.TradeRow)
-      → AreRowsOfAges (λ age row. Some (abstract_trade_row row) ≡ row_of_age (λ r. r.id) (λ a r. (r.account == account) && (r.stamp == a.stamp)) t.trades age)
+      → AreRowsOfAges (λ age row. Some (abstract_trade_row row) ≡ trade_of_age (λ (r : TradeRow). r.account == account) t.trades age)
       (take most (drop 0 (in_order true (ages_at index (group.TradesOfAccount account))))) rows
       → map abstract_trade_row rows ≡ take most (trade_rows_recent_first (trade_rows_of_account t account))
   newest_of_account account most rows all =
-      let id_of = λ (r : TradeRow). r.id in
-      let test = λ (a : RowAge) (r : TradeRow). (r.account == account) && (r.stamp == a.stamp) in
       let mine = λ (r : TradeRow). r.account == account in
-      let found = row_of_age id_of test t.trades in
+      let ages = ages_at index (group.TradesOfAccount account) in
+      recent_trades_found t.trades (trades_climb t (state g conn).now (holds clean on)) mine ages (index_of_rows.groups (group.TradesOfAccount account)) 0 most (map abstract_trade_row rows)
+      (found_of_ages abstract_trade_row (trade_of_age mine t.trades) (take most (drop 0 (in_order true ages))) rows all)
+
+  -- the trades of a group, the oldest first, between the places of two stamps
+  pub oldest_between : (is_in : TradeRow → Bool) (named : group.Group) → group.members named t ≡ map age_of_trade (filter is_in t.trades) → (first last k j : ℕ)
+      → IsPlaceOfStamp (ages_at index named) first false k → IsPlaceOfStamp (ages_at index named) last true j → (rows : List trade.TradeRow)
+      → AreRowsOfAges (λ age row. Some (abstract_trade_row row) ≡ trade_of_age is_in t.trades age) (take (min 20 (j - k)) (drop k (in_order false (ages_at index named)))) rows
+      → map abstract_trade_row rows ≡ take 20 (trade_rows_oldest_first (filter (λ r. is_in r && row_stamp_is_between first last r) t.trades))
+  oldest_between is_in named same first last k j from until rows all =
+      let ages = ages_at index named in
+      let are : AreAgesOf ages (map age_of_trade (filter is_in t.trades)) = subst (AreAgesOf ages) same (index_of_rows.groups named) in
       let up = trades_climb t (state g conn).now (holds clean on) in
-      recent_page_found id_of (λ r. r.stamp) (filter mine t.trades) (filtered_rises id_of mine t.trades up) (ages_at index (group.TradesOfAccount account)) (index_of_rows.groups (group.TradesOfAccount account)) found
-      (λ x h.
-      let k = has_filtered mine t.trades x h in
-      age_finds id_of t.trades up test (record { stamp = x.stamp; id = x.id }) x k.0 refl (both (x.account == account) (x.stamp == x.stamp) k.1 (eq-eqb x.stamp x.stamp refl)))
-      0 most (map abstract_trade_row rows) (found_of_ages abstract_trade_row found (take most (drop 0 (in_order true (ages_at index (group.TradesOfAccount account))))) rows all)
+      let sorted = trade_rows_oldest_first (filter is_in t.trades) in
+      oldest_trades_found t.trades up is_in ages are k (min 20 (j - k)) (map abstract_trade_row rows)
+      (found_of_ages abstract_trade_row (trade_of_age is_in t.trades) (take (min 20 (j - k)) (drop k ages)) rows all)
+      ∙ span 20 k j sorted ∙ ap (take 20) (trades_between t.trades up is_in ages are first last k j from until)
+      ∙ ap (λ l. take 20 (trade_rows_oldest_first l)) (three_tests is_in (λ (r : TradeRow). nat_le r.stamp last) (λ (r : TradeRow). nat_le first r.stamp) (λ (r : TradeRow). row_stamp_is_between first last r) (λ r. between_is (nat_le first r.stamp) (nat_le r.stamp last)) t.trades)
 
   -- the submitted trades
   pub submitted_of_index : (rows : List trade.TradeRow)

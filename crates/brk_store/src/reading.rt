@@ -74,7 +74,12 @@ impl<S: Alter> Store<S> {
     {
         if let StoreIndex::Made(index) = &self.index {
             let ages = index.ages(&Group::AccountsOfCustomer(customer));
-            return read_all_rows(&mut self.conn, alloc, &AccountsOfCustomer { customer }, ages);
+            return read_all_rows(
+                &mut self.conn,
+                alloc,
+                &AccountsOfCustomer { customer },
+                ages,
+            );
         }
         let mut tx = begin_transaction(&mut self.conn);
         brk_tables_reference::accounts_of_customer(&mut tx, alloc, customer)

@@ -1,20 +1,26 @@
 //! Trades that are read by their ages: those of an account, of a symbol, and the submitted ones.
 
-ghost use Rattle.std.specs.Prelude.{◌≡◌, ◌==◌, ◌&&◌, Some, bytes_eq, false};
+ghost use Rattle.std.specs.Prelude.{◌≡◌, ◌==◌, ◌-◌, ℕ, Some, bytes_eq, drop, false, min, take, true};
+ghost use Rattle.std.specs.Option.{option_copied};
 ghost use Rattle.brk_money.specs.Kinds.{is_same_trade_status};
 ghost use Rattle.brk_money.specs.declared.status.Status.TheVariants.{Submitted};
 ghost use Rattle.brk_ref.specs.Rows.{abstract_trade_row};
-ghost use Rattle.brk_store_index.specs.Index.{row_of_age};
+ghost use Rattle.brk_store_index.specs.Ages.{IsPlaceOfStamp, ages_in, in_order};
+ghost use Rattle.brk_store_index.specs.Index.{row_of_age, trade_of_age};
+ghost use Rattle.brk_store.specs.Indexed.{AreRowsOfAges};
 ghost use Rattle.brk_store_transactions.specs.Holds.{ReadPost};
 ghost use Rattle.brk_tables_schema.specs.Desk.{Trades};
 ghost use Rattle.brk_tables_schema.specs.Statements.{IsFirstMatch};
 
-use crate::by_age::RowsByAge;
-use brk_money::{Id, Status, StoreFailed};
+use crate::by_age::{RowsByAge, read_chosen_rows};
+use brk_money::{CallFault, Id, Stamp, Status, StoreFailed};
 use brk_ref::{Symbol, TradeRow};
 use brk_store_index::RowAge;
+use brk_store_index::ages::place_of_stamp;
 use brk_store_transactions::begin_transaction;
 use sqlite::{Alter, Connection};
+use std::alloc::Global;
+use std::collections::VecDeque;
 
 #[tactic(auto, using(brk_store_transactions::proofs::Ending::read_is_over))]
 fn read_trade_by_id<S: Alter>(
@@ -34,7 +40,7 @@ pub(crate) struct TradesOfAccount {
 }
 
 impl<S: Alter> RowsByAge<S, TradeRow> for TradesOfAccount {
-    ghost found = { λ group age row t. Some (abstract_trade_row row) ≡ row_of_age (λ r. r.id) (λ a r. (r.account == group.account) && (r.stamp == a.stamp)) t.trades age };
+    ghost found = { λ group age row t. Some (abstract_trade_row row) ≡ trade_of_age (λ r. r.account == group.account) t.trades age };
 
     fn row_of_age(&self, conn: &mut Connection<S>, age: &RowAge) -> Result<TradeRow, StoreFailed> {
         let Some(row) = read_trade_by_id(conn, age.id)? else {
@@ -52,7 +58,7 @@ pub(crate) struct TradesOfSymbol<'a> {
 }
 
 impl<S: Alter> RowsByAge<S, TradeRow> for TradesOfSymbol<'_> {
-    ghost found = { λ group age row t. Some (abstract_trade_row row) ≡ row_of_age (λ r. r.id) (λ a r. bytes_eq r.symbol group.symbol.now && (r.stamp == a.stamp)) t.trades age };
+    ghost found = { λ group age row t. Some (abstract_trade_row row) ≡ trade_of_age (λ r. bytes_eq r.symbol group.symbol.now) t.trades age };
 
     fn row_of_age(&self, conn: &mut Connection<S>, age: &RowAge) -> Result<TradeRow, StoreFailed> {
         let Some(row) = read_trade_by_id(conn, age.id)? else {
@@ -79,4 +85,38 @@ impl<S: Alter> RowsByAge<S, TradeRow> for SubmittedTrades {
         }
         Ok(row)
     }
+}
+
+// The places of the first age of the span and of the first after it.
+fn places_of_span(ages: Option<&VecDeque<RowAge>>, first: Stamp, last: Stamp) -> (usize, usize)
+    ensures first { IsPlaceOfStamp (ages_in (option_copied ages.entry)) first false result.0 }
+    ensures last { IsPlaceOfStamp (ages_in (option_copied ages.entry)) last true result.1 }
+{
+    match ages {
+        Some(ages) => (
+            place_of_stamp(ages, first, false),
+            place_of_stamp(ages, last, true),
+        ),
+        None => (0, 0),
+    }
+}
+
+/// Reads the oldest twenty trades of a group whose stamps are from `first` to `last`, both included.
+pub(crate) fn read_twenty_between<S: Alter, K: RowsByAge<S, TradeRow>>(
+    conn: &mut Connection<S>,
+    alloc: Global,
+    kind: &K,
+    ages: Option<&VecDeque<RowAge>>,
+    first: Stamp,
+    last: Stamp,
+) -> Result<Vec<TradeRow>, CallFault>
+    requires { conn.old.in_transaction ≡ false }
+    ensures mode { conn.new.in_transaction ≡ false }
+    ensures read { ReadPost S.Store conn.old conn.new result (λ rows t. (from : ℕ) × (until : ℕ) × IsPlaceOfStamp (ages_in (option_copied ages.entry)) first false from
+        × IsPlaceOfStamp (ages_in (option_copied ages.entry)) last true until
+        × AreRowsOfAges (λ age row. K.found kind.now age row t) (take (min 20 (until - from)) (drop from (in_order false (ages_in (option_copied ages.entry))))) rows.items) }
+{
+    let (from, until) = places_of_span(ages, first, last);
+    let most = until.saturating_sub(from).min(20);
+    read_chosen_rows(conn, alloc, kind, ages, false, from, most)
 }

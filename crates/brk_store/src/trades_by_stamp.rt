@@ -11,8 +11,11 @@ ghost use Rattle.brk_model.specs.LookupView.{row_stamp_is_between};
 ghost use Rattle.brk_store_transactions.specs.Holds.{ReadPost};
 
 use crate::Store;
+use crate::index::StoreIndex;
+use crate::trades_by_age::{TradesOfAccount, TradesOfSymbol, read_twenty_between};
 use brk_money::{CallFault, Id, Stamp, StoreFailed};
 use brk_ref::{Span, Symbol, TradeRow};
+use brk_store_index::Group;
 use brk_store_transactions::begin_transaction;
 use sqlite::Alter;
 use std::alloc::Global;
@@ -29,6 +32,11 @@ impl<S: Alter> Store<S> {
         ensures read { ReadPost S.Store self.old self.new result (λ all t. map abstract_trade_row all.items
             ≡ take 20 (trade_rows_oldest_first (filter (λ r. (r.account == account) && row_stamp_is_between span.first span.last r) t.trades))) }
     {
+        if let StoreIndex::Made(index) = &self.index {
+            let ages = index.ages(&Group::TradesOfAccount(account));
+            let trades = TradesOfAccount { account };
+            return read_twenty_between(&mut self.conn, alloc, &trades, ages, span.first, span.last);
+        }
         let mut tx = begin_transaction(&mut self.conn);
         brk_tables_views::twenty_trades_of_account(&mut tx, alloc, account, span.first, span.last)
     }
@@ -43,6 +51,11 @@ impl<S: Alter> Store<S> {
         ensures read { ReadPost S.Store self.old self.new result (λ all t. map abstract_trade_row all.items
             ≡ take 20 (trade_rows_oldest_first (filter (λ r. bytes_eq r.symbol symbol.now && row_stamp_is_between span.first span.last r) t.trades))) }
     {
+        if let StoreIndex::Made(index) = &self.index {
+            let ages = index.ages(&Group::TradesOfSymbol(symbol));
+            let trades = TradesOfSymbol { symbol };
+            return read_twenty_between(&mut self.conn, alloc, &trades, ages, span.first, span.last);
+        }
         let mut tx = begin_transaction(&mut self.conn);
         brk_tables_views::twenty_trades_of_symbol(&mut tx, alloc, symbol, span.first, span.last)
     }

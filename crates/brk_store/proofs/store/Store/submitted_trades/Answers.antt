@@ -20,7 +20,7 @@ returns-in-Made g c =
     let conn = c.self.inside.conn in
     let end = c.read_all_rows.new.conn in
     let shows = λ (rows : Vec row.TradeRow) (t : Tables). AreRowsOfAges (λ age r. Some (abstract_trade_row r) ≡ row_of_age (λ (r : TradeRow). r.id) (λ a r. is_same_trade_status r.status Submitted) t.trades age)
-        (group.ages_at c.in-Made.index group.SubmittedTrades) rows.items in
+    (group.ages_at c.in-Made.index group.SubmittedTrades) rows.items in
     let tells = λ (rows : Vec row.TradeRow) (t : Tables). map abstract_trade_row rows.items ≡ filter (λ (r : TradeRow). is_same_trade_status r.status Submitted) t.trades in
     let read : ReadPost g.S.Store conn end c.read_all_rows.result shows = rw c.ages.ensures at c.read_all_rows.ensures.read in
     record {
