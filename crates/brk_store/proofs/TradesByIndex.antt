@@ -1,6 +1,6 @@
 -- Trades, accounts and lot changes that are read by the index are those of the tables.
-use Rattle.std.proofs.Common.{◌≡◌, ◌∙◌, ◌==◌, ◌&&◌, ◌-◌, ℕ, zero, suc, Bool, true, false, List, [], ◌∷◌, Some, IsTrue, drop, filter, map, min, refl, sym, ap, subst, take}
-use Rattle.std.specs.Prelude.{nat_le}
+use Rattle.std.proofs.Common.{◌≡◌, ◌∙◌, ◌==◌, ◌&&◌, ◌-◌, ℕ, zero, suc, Bool, true, false, List, [], ◌∷◌, Option, Some, None, IsTrue, drop, filter, map, min, option_map, refl, slice_get, sym, ap, subst, take}
+use Rattle.std.specs.Prelude.{nat_le, option_to_list}
 use Rattle.sqlite_trees.specs.declared.store.Store.{Ghosts}
 use Rattle.sqlite.specs.Held.{Held, state}
 use Rattle.sqlite.specs.State.{HasCleanDisk}
@@ -22,7 +22,7 @@ use Rattle.brk_store_index.specs.declared.age.RowAge.{RowAge}
 use Rattle.brk_store_index.specs.declared.index.RowIndex.{RowIndex}
 use Rattle.brk_store_index.proofs.Elements.{has_filtered}
 use Rattle.brk_store_index.proofs.Ordered.{age_finds, all_by_id, filtered_rises}
-use Rattle.brk_store_index.proofs.TradeLists.{oldest_trades_found, recent_trades_found, trades_between}
+use Rattle.brk_store_index.proofs.TradeLists.{oldest_trades_found, recent_trades_found, trades_between, trades_since}
 use Rattle.brk_store_transactions.specs.Holds.{HoldsRows}
 use Rattle.brk_store.specs.Indexed.{AreRowsOfAges, IndexIsTrue}
 use Rattle.brk_store.specs.declared.index.StoreIndex.TheVariants.{Made}
@@ -48,6 +48,16 @@ span n (suc k) (suc j) [] = nothing n
     nothing : {X : Type 0} (n : ℕ) → take (min n (suc j - suc k)) (drop (suc k) []) ≡ take n (drop (suc k) (take (suc j) []))
     nothing n = refl
 span n (suc k) (suc j) (x ∷ xs) = span n k j xs
+
+one_at : (k : ℕ) (ages : List RowAge) → option_to_list (slice_get ages k) ≡ take 1 (drop k ages)
+one_at zero [] = refl
+one_at zero (a ∷ ages) = refl
+one_at (suc k) [] = refl
+one_at (suc k) (a ∷ ages) = one_at k ages
+
+listed : (row : Option trade.TradeRow) → option_to_list (option_map abstract_trade_row row) ≡ map abstract_trade_row (option_to_list row)
+listed None = refl
+listed (Some row) = refl
 
 between_is : (a b : Bool) → (b && a) ≡ (a && b)
 between_is true true = refl
@@ -98,6 +108,22 @@ module _ {S : Type 0} (g : Ghosts S) (conn : Held S) (index : RowIndex) (is : In
       (found_of_ages abstract_trade_row (trade_of_age is_in t.trades) (take (min 20 (j - k)) (drop k ages)) rows all)
       ∙ span 20 k j sorted ∙ ap (take 20) (trades_between t.trades up is_in ages are first last k j from until)
       ∙ ap (λ l. take 20 (trade_rows_oldest_first l)) (three_tests is_in (λ (r : TradeRow). nat_le r.stamp last) (λ (r : TradeRow). nat_le first r.stamp) (λ (r : TradeRow). row_stamp_is_between first last r) (λ r. between_is (nat_le first r.stamp) (nat_le r.stamp last)) t.trades)
+
+  -- the oldest trade of an account from the place of a stamp on
+  pub first_since : (account first k : ℕ) → IsPlaceOfStamp (ages_at index (group.TradesOfAccount account)) first false k → (age : Option RowAge)
+      → age ≡ slice_get (ages_at index (group.TradesOfAccount account)) k → (row : Option trade.TradeRow)
+      → AreRowsOfAges (λ age row. Some (abstract_trade_row row) ≡ trade_of_age (λ (r : TradeRow). r.account == account) t.trades age) (option_to_list age) (option_to_list row)
+      → option_to_list (option_map abstract_trade_row row) ≡ take 1 (trade_rows_oldest_first (filter (λ r. nat_le first r.stamp) (trade_rows_of_account t account)))
+  first_since account first k place age at row all =
+      let mine = λ (r : TradeRow). r.account == account in
+      let ages = ages_at index (group.TradesOfAccount account) in
+      let are = index_of_rows.groups (group.TradesOfAccount account) in
+      let up = trades_climb t (state g conn).now (holds clean on) in
+      let one : option_to_list age ≡ take 1 (drop k ages) = ap option_to_list at ∙ one_at k ages in
+      listed row
+      ∙ oldest_trades_found t.trades up mine ages are k 1 (map abstract_trade_row (option_to_list row))
+      (found_of_ages abstract_trade_row (trade_of_age mine t.trades) (option_to_list age) (option_to_list row) all ∙ ap (map (trade_of_age mine t.trades)) one)
+      ∙ ap (take 1) (trades_since t.trades up mine ages are first k place)
 
   -- the submitted trades
   pub submitted_of_index : (rows : List trade.TradeRow)

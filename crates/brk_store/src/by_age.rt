@@ -1,6 +1,6 @@
 //! Rows that are read one after another by their ages, which an index has.
 
-ghost use Rattle.std.specs.Prelude.{◌≡◌, ◌+◌, ◌<◌, ◌^◌, drop, false, take};
+ghost use Rattle.std.specs.Prelude.{◌≡◌, ◌+◌, ◌<◌, ◌^◌, drop, false, option_to_list, take};
 ghost use Rattle.std.specs.Option.{option_copied};
 ghost use Rattle.brk_store_index.specs.Ages.{ages_in, in_order};
 ghost use Rattle.brk_model.specs.Tables.{Tables};
@@ -106,4 +106,22 @@ pub(crate) fn read_all_rows<S: Alter, R: Drop, K: RowsByAge<S, R>>(
 {
     let all = all_ages(alloc, ages)?;
     read_rows_of_ages(conn, alloc, kind, &all)
+}
+
+/// Returns the row of the age, if there is one.
+pub(crate) fn read_row_if_any<S: Alter, R: Drop, K: RowsByAge<S, R>>(
+    conn: &mut Connection<S>,
+    kind: &K,
+    age: Option<RowAge>,
+) -> Result<Option<R>, StoreFailed>
+    requires { conn.old.in_transaction ≡ false }
+    ensures mode { conn.new.in_transaction ≡ false }
+    ensures read { ReadPost S.Store conn.old conn.new result (λ row t. AreRowsOfAges (λ age row. K.found kind.now age row t) (option_to_list age) (option_to_list row)) }
+{
+    // Called because it fails if the database is not open.
+    let _last = read_last_stamp(conn)?;
+    match age {
+        Some(age) => Ok(Some(kind.row_of_age(conn, &age)?)),
+        None => Ok(None),
+    }
 }

@@ -1,6 +1,6 @@
 //! Trades that are read by their ages: those of an account, of a symbol, and the submitted ones.
 
-ghost use Rattle.std.specs.Prelude.{◌≡◌, ◌==◌, ◌-◌, ℕ, Some, bytes_eq, drop, false, min, take, true};
+ghost use Rattle.std.specs.Prelude.{◌≡◌, ◌==◌, ◌-◌, ℕ, Some, bytes_eq, drop, false, min, slice_get, take, true};
 ghost use Rattle.std.specs.Option.{option_copied};
 ghost use Rattle.brk_money.specs.Kinds.{is_same_trade_status};
 ghost use Rattle.brk_money.specs.declared.status.Status.TheVariants.{Submitted};
@@ -16,7 +16,7 @@ use crate::by_age::{RowsByAge, read_chosen_rows};
 use brk_money::{CallFault, Id, Stamp, Status, StoreFailed};
 use brk_ref::{Symbol, TradeRow};
 use brk_store_index::RowAge;
-use brk_store_index::ages::place_of_stamp;
+use brk_store_index::ages::{age_in_order, place_of_stamp};
 use brk_store_transactions::begin_transaction;
 use sqlite::{Alter, Connection};
 use std::alloc::Global;
@@ -119,4 +119,14 @@ pub(crate) fn read_twenty_between<S: Alter, K: RowsByAge<S, TradeRow>>(
     let (from, until) = places_of_span(ages, first, last);
     let most = until.saturating_sub(from).min(20);
     read_chosen_rows(conn, alloc, kind, ages, false, from, most)
+}
+
+/// Returns the age of the oldest row whose stamp is at least `stamp`.
+pub(crate) fn first_age_since(ages: Option<&VecDeque<RowAge>>, stamp: Stamp) -> Option<RowAge>
+    ensures { (place : ℕ) × IsPlaceOfStamp (ages_in (option_copied ages.entry)) stamp false place × (result ≡ slice_get (ages_in (option_copied ages.entry)) place) }
+{
+    match ages {
+        Some(ages) => age_in_order(ages, false, place_of_stamp(ages, stamp, false)),
+        None => None,
+    }
 }

@@ -11,8 +11,9 @@ ghost use Rattle.brk_model.specs.LookupView.{row_stamp_is_between};
 ghost use Rattle.brk_store_transactions.specs.Holds.{ReadPost};
 
 use crate::Store;
+use crate::by_age::read_row_if_any;
 use crate::index::StoreIndex;
-use crate::trades_by_age::{TradesOfAccount, TradesOfSymbol, read_twenty_between};
+use crate::trades_by_age::{TradesOfAccount, TradesOfSymbol, first_age_since, read_twenty_between};
 use brk_money::{CallFault, Id, Stamp, StoreFailed};
 use brk_ref::{Span, Symbol, TradeRow};
 use brk_store_index::Group;
@@ -70,6 +71,10 @@ impl<S: Alter> Store<S> {
         ensures read { ReadPost S.Store self.old self.new result (λ o t. option_to_list (option_map abstract_trade_row o)
             ≡ take 1 (trade_rows_oldest_first (filter (λ r. nat_le first r.stamp) (trade_rows_of_account t account)))) }
     {
+        if let StoreIndex::Made(index) = &self.index {
+            let age = first_age_since(index.ages(&Group::TradesOfAccount(account)), first);
+            return read_row_if_any(&mut self.conn, &TradesOfAccount { account }, age);
+        }
         let mut tx = begin_transaction(&mut self.conn);
         brk_tables_views::first_trade_since(&mut tx, account, first)
     }
