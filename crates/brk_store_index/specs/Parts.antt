@@ -52,11 +52,11 @@ place_of_lot r = record { account = r.account; symbol = r.symbol; stamp = r.stam
 abbrev pub lot_places : LotGroups → ℕ → Option LotPlace
 lot_places lots trade = get nat_eq lots.places trade
 
--- The places are those of the rows of HOLDING.
+-- The index has the place of each row of HOLDING, and no other.
 abbrev pub ArePlacesOfLots : LotGroups → List HoldingRow → Type 0
 ArePlacesOfLots lots rows = ArePlacesOf (λ (r : HoldingRow). r.trade) place_of_lot (lot_places lots) rows
 
--- The lots of each position are those of the rows of HOLDING.
+-- For each position the index has exactly the ages of its rows of HOLDING.
 pub record IsIndexOfLots (lots : LotGroups) (rows : List HoldingRow) : Type 0 where
   pub places : ArePlacesOfLots lots rows
   pub positions : (account : ℕ) (symbol : Text) →
@@ -72,11 +72,12 @@ place_of_trade r = record { account = r.account; symbol = r.symbol; stamp = r.st
 abbrev pub trade_places : TradeGroups → ℕ → Option TradePlace
 trade_places trades id = get nat_eq trades.places id
 
--- The places are those of the rows of TRADE.
+-- The index has the place of each row of TRADE, and no other.
 abbrev pub ArePlacesOfTrades : TradeGroups → List TradeRow → Type 0
 ArePlacesOfTrades trades rows = ArePlacesOf (λ (r : TradeRow). r.id) place_of_trade (trade_places trades) rows
 
--- The trades of each account and each symbol, and those submitted, are those of the rows of TRADE.
+-- For each account and each symbol, and for the status submitted, the index has exactly the ages of
+-- the rows of TRADE with it.
 pub record IsIndexOfTrades (trades : TradeGroups) (rows : List TradeRow) : Type 0 where
   pub places : ArePlacesOfTrades trades rows
   pub accounts : (account : ℕ) → FollowPlaces (trade_places trades) (λ (p : TradePlace). p.account == account) (λ (p : TradePlace). p.stamp) (ages_of_number trades.accounts account)
@@ -111,12 +112,12 @@ pub record SetsStatus (is_submitted : Bool) (stamp : ℕ) (set : TradeRow → Tr
 
 -- ---- accounts and changes of lots
 
--- The accounts of each customer are those of the rows of CUSTOMER_ACCOUNT.
+-- For each customer the groups have exactly the ages of its rows of CUSTOMER_ACCOUNT.
 abbrev pub AreAccountsOf : AgesByNumber → List AccountRow → Type 0
 AreAccountsOf groups rows = (customer : ℕ) → AreAgesOf (ages_of_number groups customer)
     (map (λ (r : AccountRow). age_of_id r.id) (filter (λ (r : AccountRow). r.customer == customer) rows))
 
--- The changes of lots by each trade are those of the rows of HOLDING_HISTORY.
+-- For each trade the groups have exactly the ages of its rows of HOLDING_HISTORY.
 abbrev pub AreLotChangesOf : AgesByNumber → List HoldingHistoryRow → Type 0
 AreLotChangesOf groups rows = (trade : ℕ) → AreAgesOf (ages_of_number groups trade)
     (map (λ (r : HoldingHistoryRow). age_of_id r.lot) (filter (λ (r : HoldingHistoryRow). r.trade == trade) rows))
