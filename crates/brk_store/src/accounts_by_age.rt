@@ -43,6 +43,7 @@ fn read_lot_change_by_key<S: Alter>(
     brk_tables_views::lot_change_by_key(&mut tx, lot, trade)
 }
 
+#[derive(Clone, Copy)]
 pub(crate) struct AccountsOfCustomer {
     pub(crate) customer: Id,
 }
@@ -65,6 +66,7 @@ impl<S: Alter> RowsByAge<S, AccountRow> for AccountsOfCustomer {
     }
 }
 
+#[derive(Clone, Copy)]
 pub(crate) struct LotChangesOfTrade {
     pub(crate) trade: Id,
 }

@@ -48,6 +48,7 @@ fn is_lot_of_position(row: &HoldingRow, account: Id, symbol: &Symbol, stamp: Sta
     row.account == account && row.symbol.as_str() == symbol.as_str() && row.stamp == stamp
 }
 
+#[derive(Clone, Copy)]
 struct LotsOfPosition<'a> {
     account: Id,
     symbol: &'a Symbol,

@@ -35,6 +35,7 @@ fn read_trade_by_id<S: Alter>(
     brk_tables_trading::trade_by_id(&mut tx, id)
 }
 
+#[derive(Clone, Copy)]
 pub(crate) struct TradesOfAccount {
     pub(crate) account: Id,
 }
@@ -53,6 +54,7 @@ impl<S: Alter> RowsByAge<S, TradeRow> for TradesOfAccount {
     }
 }
 
+#[derive(Clone, Copy)]
 pub(crate) struct TradesOfSymbol<'a> {
     pub(crate) symbol: &'a Symbol,
 }
@@ -71,6 +73,7 @@ impl<S: Alter> RowsByAge<S, TradeRow> for TradesOfSymbol<'_> {
     }
 }
 
+#[derive(Clone, Copy)]
 pub(crate) struct SubmittedTrades;
 
 impl<S: Alter> RowsByAge<S, TradeRow> for SubmittedTrades {

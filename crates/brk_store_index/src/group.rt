@@ -2,6 +2,7 @@ use brk_money::Id;
 use brk_ref::Symbol;
 
 /// A group of rows that the index finds.
+#[derive(Clone, Copy)]
 pub enum Group<'a> {
     /// The lots of an account in a security, by the stamp of the opening, then by the opening trade.
     Position(Id, &'a Symbol),
