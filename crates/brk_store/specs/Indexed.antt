@@ -23,7 +23,7 @@ IsIndexOfDatabase Absent db = ⊤
 IsIndexOfDatabase Unmade db = (t : Tables) × HasDeskTables t db
 IsIndexOfDatabase (Made index) db = (t : Tables) × HasDeskTables t db × IsIndexOf index t
 
--- The index is that of the current database of the connection (`IsIndexOfDatabase`). Vacuous if the
+-- The index is right for the current database of the connection (`IsIndexOfDatabase`). Vacuous if the
 -- disk assumption fails, or once the database is closed.
 pub record IndexIsTrue {S : Type 0} (g : Ghosts S) (conn : Held S) (index : StoreIndex) : Type 0 where
   pub indexed : HasCleanDisk (state g conn) → IsTrue (state g conn).is_open → IsIndexOfDatabase index (state g conn).now
