@@ -43,6 +43,12 @@ fn read_lot_change_by_key<S: Alter>(
     brk_tables_views::lot_change_by_key(&mut tx, lot, trade)
 }
 
+fn is_account_of_customer(row: &AccountRow, customer: Id) -> bool
+    ensures { result ≡ ((abstract_account_row row.now).customer == customer) }
+{
+    row.account.customer == customer
+}
+
 #[derive(Clone, Copy)]
 pub(crate) struct AccountsOfCustomer {
     pub(crate) customer: Id,
@@ -59,7 +65,7 @@ impl<S: Alter> RowsByAge<S, AccountRow> for AccountsOfCustomer {
         let Some(row) = read_account_by_id(conn, age.id)? else {
             return Err(StoreFailed);
         };
-        if row.account.customer != self.customer {
+        if !is_account_of_customer(&row, self.customer) {
             return Err(StoreFailed);
         }
         Ok(row)

@@ -1,6 +1,6 @@
 //! Trades that are read by their ages: those of an account, of a symbol, and the submitted ones.
 
-ghost use Rattle.std.specs.Prelude.{◌≡◌, ◌==◌, ◌-◌, ℕ, Some, bytes_eq, drop, false, min, slice_get, take, true};
+ghost use Rattle.std.specs.Prelude.{◌≡◌, ◌==◌, ◌&&◌, ◌-◌, ℕ, Some, bytes_eq, drop, false, min, slice_get, take, true};
 ghost use Rattle.std.specs.Option.{option_copied};
 ghost use Rattle.brk_money.specs.Kinds.{is_same_trade_status};
 ghost use Rattle.brk_money.specs.declared.status.Status.TheVariants.{Submitted};
@@ -35,6 +35,13 @@ fn read_trade_by_id<S: Alter>(
     brk_tables_trading::trade_by_id(&mut tx, id)
 }
 
+// The trade must also have the stamp.
+fn is_trade_of_account(row: &TradeRow, account: Id, stamp: Stamp) -> bool
+    ensures { result ≡ ((row.now.account == account) && (row.now.stamp == stamp)) }
+{
+    row.account == account && row.stamp == stamp
+}
+
 #[derive(Clone, Copy)]
 pub(crate) struct TradesOfAccount {
     pub(crate) account: Id,
@@ -47,11 +54,18 @@ impl<S: Alter> RowsByAge<S, TradeRow> for TradesOfAccount {
         let Some(row) = read_trade_by_id(conn, age.id)? else {
             return Err(StoreFailed);
         };
-        if row.account != self.account || row.stamp != age.stamp {
+        if !is_trade_of_account(&row, self.account, age.stamp) {
             return Err(StoreFailed);
         }
         Ok(row)
     }
+}
+
+// The trade must also have the stamp.
+fn is_trade_of_symbol(row: &TradeRow, symbol: &Symbol, stamp: Stamp) -> bool
+    ensures { result ≡ (bytes_eq row.now.symbol symbol.now && (row.now.stamp == stamp)) }
+{
+    row.symbol.as_str() == symbol.as_str() && row.stamp == stamp
 }
 
 #[derive(Clone, Copy)]
@@ -66,11 +80,17 @@ impl<S: Alter> RowsByAge<S, TradeRow> for TradesOfSymbol<'_> {
         let Some(row) = read_trade_by_id(conn, age.id)? else {
             return Err(StoreFailed);
         };
-        if row.symbol.as_str() != self.symbol.as_str() || row.stamp != age.stamp {
+        if !is_trade_of_symbol(&row, self.symbol, age.stamp) {
             return Err(StoreFailed);
         }
         Ok(row)
     }
+}
+
+fn is_submitted(row: &TradeRow) -> bool
+    ensures { result ≡ is_same_trade_status row.now.status Submitted }
+{
+    row.status == Status::Submitted
 }
 
 #[derive(Clone, Copy)]
@@ -83,7 +103,7 @@ impl<S: Alter> RowsByAge<S, TradeRow> for SubmittedTrades {
         let Some(row) = read_trade_by_id(conn, age.id)? else {
             return Err(StoreFailed);
         };
-        if row.status != Status::Submitted {
+        if !is_submitted(&row) {
             return Err(StoreFailed);
         }
         Ok(row)
