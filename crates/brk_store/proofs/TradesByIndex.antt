@@ -1,5 +1,5 @@
 -- Trades, accounts and lot changes that are read by the index are those of the tables.
-use Rattle.std.proofs.Common.{◌≡◌, ◌∙◌, ◌==◌, ◌&&◌, ◌-◌, ℕ, zero, suc, Bool, true, false, List, [], ◌∷◌, Option, Some, None, IsTrue, drop, filter, map, min, option_map, refl, slice_get, sym, ap, subst, take}
+use Rattle.std.proofs.Common.{◌≡◌, ◌∙◌, ◌==◌, ◌&&◌, ◌-◌, ℕ, zero, suc, Bool, true, false, List, [], ◌∷◌, Option, Some, None, IsTrue, drop, filter, find, map, min, option_map, refl, slice_get, sym, ap, subst, take}
 use Rattle.std.specs.Prelude.{nat_le, option_to_list}
 use Rattle.sqlite_trees.specs.declared.store.Store.{Ghosts}
 use Rattle.sqlite.specs.Held.{Held, state}
@@ -8,10 +8,11 @@ use Rattle.brk_money.specs.Kinds.{is_same_trade_status}
 use Rattle.brk_money.specs.declared.status.Status.TheVariants.{Submitted}
 use Rattle.brk_model.specs.Joins.{trade_rows_of_account, trade_rows_oldest_first, trade_rows_recent_first}
 use Rattle.brk_model.specs.LookupView.{row_stamp_is_between}
-use Rattle.brk_model.specs.Tables.{AccountRow, Tables, TradeRow}
+use Rattle.brk_model.specs.Tables.{AccountRow, HoldingHistoryRow, Tables, TradeRow}
 use Rattle.brk_ref.specs.Records.{abstract_account_row}
-use Rattle.brk_ref.specs.Rows.{abstract_trade_row}
+use Rattle.brk_ref.specs.Rows.{abstract_lot_change_row, abstract_trade_row}
 use Rattle.brk_ref.specs.declared.account.AccountRow as account
+use Rattle.brk_ref.specs.declared.lot_change.LotChange as change
 use Rattle.brk_ref.specs.declared.trade_row.TradeRow as trade
 use Rattle.brk_tables.proofs.OneTables.{one_tables}
 use Rattle.brk_store_index.specs.Ages.{AreAgesOf, IsPlaceOfStamp, in_order}
@@ -21,13 +22,13 @@ use Rattle.brk_store_index.specs.Index as group
 use Rattle.brk_store_index.specs.declared.age.RowAge.{RowAge}
 use Rattle.brk_store_index.specs.declared.index.RowIndex.{RowIndex}
 use Rattle.brk_store_index.proofs.Elements.{has_filtered}
-use Rattle.brk_store_index.proofs.Ordered.{age_finds, all_by_id, filtered_rises}
+use Rattle.brk_store_index.proofs.Ordered.{age_finds, all_by_id, filtered_rises, finds}
 use Rattle.brk_store_index.proofs.TradeLists.{oldest_trades_found, recent_trades_found, trades_between, trades_since}
 use Rattle.brk_store_transactions.specs.Holds.{HoldsRows}
 use Rattle.brk_store.specs.Indexed.{AreRowsOfAges, IndexIsTrue}
 use Rattle.brk_store.specs.declared.index.StoreIndex.TheVariants.{Made}
 use Rattle.brk_store.proofs.ByAges.{found_of_ages}
-use Rattle.brk_store.proofs.WalkedLists.{accounts_climb, trades_climb}
+use Rattle.brk_store.proofs.WalkedLists.{accounts_climb, changes_climb, trades_climb}
 
 -- a part of a list by its places
 span : {X : Type 0} (n k j : ℕ) (xs : List X) → take (min n (j - k)) (drop k xs) ≡ take n (drop k (take j xs))
@@ -58,6 +59,16 @@ one_at (suc k) (a ∷ ages) = one_at k ages
 listed : (row : Option trade.TradeRow) → option_to_list (option_map abstract_trade_row row) ≡ map abstract_trade_row (option_to_list row)
 listed None = refl
 listed (Some row) = refl
+
+find_in_filter : {X : Type 0} (p q : X → Bool) (xs : List X) → find (λ x. p x && q x) xs ≡ find p (filter q xs)
+find_in_filter p q [] = refl
+find_in_filter {X} p q (x ∷ xs) = go (p x) (q x) refl refl (find_in_filter p q xs)
+  where
+    go : (a b : Bool) → p x ≡ a → q x ≡ b → find (λ x. p x && q x) xs ≡ find p (filter q xs) → find (λ x. p x && q x) (x ∷ xs) ≡ find p (filter q (x ∷ xs))
+    go true true e f more = rw (e, f, e) refl
+    go true false e f more = rw (e, f) more
+    go false true e f more = rw (e, f, e) more
+    go false false e f more = rw (e, f) more
 
 between_is : (a b : Bool) → (b && a) ≡ (a && b)
 between_is true true = refl
@@ -152,3 +163,17 @@ module _ {S : Type 0} (g : Ghosts S) (conn : Held S) (index : RowIndex) (is : In
       all_by_id id_of (filter mine t.accounts) (filtered_rises id_of mine t.accounts up) (ages_at index (group.AccountsOfCustomer customer)) (index_of_rows.groups (group.AccountsOfCustomer customer)) found
       (λ x h. let k = has_filtered mine t.accounts x h in age_finds id_of t.accounts up test (record { stamp = 0; id = x.id }) x k.0 refl k.1)
       (map abstract_account_row rows) (found_of_ages abstract_account_row found (ages_at index (group.AccountsOfCustomer customer)) rows all)
+
+  -- the lot changes of a trade
+  pub changes_of_index : (trade_id : ℕ) (rows : List change.LotChange)
+      → AreRowsOfAges (λ age row. Some (abstract_lot_change_row row) ≡ find (λ (r : HoldingHistoryRow). (r.lot == age.id) && (r.trade == trade_id)) t.holding_history)
+      (ages_at index (group.LotChangesOfTrade trade_id)) rows
+      → map abstract_lot_change_row rows ≡ filter (λ r. r.trade == trade_id) t.holding_history
+  changes_of_index trade_id rows all =
+      let lot_of = λ (r : HoldingHistoryRow). r.lot in
+      let by = λ (r : HoldingHistoryRow). r.trade == trade_id in
+      let found = λ (a : RowAge). find (λ (r : HoldingHistoryRow). (r.lot == a.id) && (r.trade == trade_id)) t.holding_history in
+      let up = changes_climb trade_id t (state g conn).now (holds clean on) in
+      all_by_id lot_of (filter by t.holding_history) up (ages_at index (group.LotChangesOfTrade trade_id)) (index_of_rows.groups (group.LotChangesOfTrade trade_id)) found
+      (λ x h. find_in_filter (λ (r : HoldingHistoryRow). r.lot == x.lot) by t.holding_history ∙ finds lot_of (filter by t.holding_history) x up h)
+      (map abstract_lot_change_row rows) (found_of_ages abstract_lot_change_row found (ages_at index (group.LotChangesOfTrade trade_id)) rows all)
