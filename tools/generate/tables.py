@@ -977,6 +977,7 @@ STATEMENTS = {
         (select, 'BrokersNamed', 'broker', [('B_NAME', 1)], [('B_ID', False)]),
         (select, 'RequestsByTrade', 'request', [], [('TR_T_ID', False)]),
         (select, 'AccountsOfBroker', 'account', [('CA_B_ID', 1)], [('CA_ID', False)], None, ['CA_ID']),
+        (select, 'AccountIds', 'account', [], [('CA_ID', False)], None, ['CA_ID']),
         (select, 'CompletedOfHolding', 'trade', [('T_CA_ID', 1), ('T_S_SYMB', 2), ('T_ST_ID', 3)], [('T_DTS', False), ('T_ID', False)], None, ['T_ID']),
     ],
 }

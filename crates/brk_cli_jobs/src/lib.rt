@@ -14,6 +14,7 @@ pub mod pipe;
 mod reopening;
 mod serve;
 mod statement;
+mod statements;
 mod words;
 
 pub use desk_files::{DeskFiles, MachineFiles};

@@ -1,5 +1,6 @@
 pub mod QueryResults
 pub mod Heads
+pub mod Statements
 pub mod Parties
 pub mod LookedUp
 pub mod Touched

@@ -1,6 +1,7 @@
 //! The answers to queries, read from a store: views of typed rows, or refusals. An answer is the
 //! model's if the tables equal those of a base that satisfies the books invariant and the audit
-//! invariant. The estimate of an order is in brk_desk_decisions; the head of a statement is here.
+//! invariant. The estimate of an order is in brk_desk_decisions; the head of a statement is here, and
+//! the accounts of several statements.
 #![tactic(auto)]
 
 pub mod accounts;
@@ -8,6 +9,7 @@ pub mod lookups;
 pub mod orders;
 mod parties;
 pub mod recents;
+pub mod statement_accounts;
 pub mod statement_head;
 pub mod statuses;
 pub mod touched_lots;
@@ -17,6 +19,7 @@ pub use accounts::{customer_by_tax_id_view, customer_view};
 pub use lookups::{account_trades_view, symbol_trades_view, trades_view};
 pub use orders::submitted_view;
 pub use recents::recent_view;
+pub use statement_accounts::statement_accounts;
 pub use statement_head::{Head, account_head};
 pub use statuses::status_view;
 pub use touched_lots::touched_lots_view;

@@ -40,7 +40,7 @@ pub use brk_tables_trading::{
     submitted_trades, trade_by_id,
 };
 pub use brk_tables_views::{
-    Visitor, WalkError, account_ids_of_broker, all_requests, brokers_with_name,
+    Visitor, WalkError, account_ids_of_broker, all_account_ids, all_requests, brokers_with_name,
     completed_trade_ids, first_trade_since, lot_changes_by_trade, lot_changes_of_lot,
     twenty_trades_of_account, twenty_trades_of_symbol, walk_account_cash_rows,
     walk_completed_trades, walk_lots, walk_query_rows,

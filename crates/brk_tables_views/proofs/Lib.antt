@@ -6,6 +6,7 @@ pub mod ChangesOf
 pub mod BrokersNamed
 pub mod RequestsByTrade
 pub mod AccountsOfBroker
+pub mod AccountIds
 pub mod CompletedOfHolding
 pub mod MomentReads
 pub mod ListReads

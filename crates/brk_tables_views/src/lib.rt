@@ -25,7 +25,7 @@ pub mod trades_by_stamp;
 pub mod visitor;
 pub mod walking;
 
-pub use brokers::{account_ids_of_broker, all_requests, brokers_with_name};
+pub use brokers::{account_ids_of_broker, all_account_ids, all_requests, brokers_with_name};
 pub use cash_walk::walk_account_cash_rows;
 pub use closure_visitors::{ClosureVisitor, LotClosureVisitor};
 pub use holdings::completed_trade_ids;

@@ -29,8 +29,8 @@ fn append_words(mut text: String, words: &[String]) -> Result<String, AllocError
 
 // Returns the name of a job and its values, in the order of its fields, as text, separated by
 // spaces: a path, or `-` if it is optional and there is none; timestamps in milliseconds since
-// 1970-01-01 UTC, or -1 if there is none; days as numbers of days since 1970-01-01; flags as `true`
-// or `false`; other numbers and words as they are. Fails only if memory runs out.
+// 1970-01-01 UTC, or -1 if there is none; days as numbers of days since 1970-01-01; a customer by its
+// id, or 0 if there is none; flags as `true` or `false`; other numbers and words as they are. Fails only if memory runs out.
 fn format_job(alloc: Global, job: &Job) -> Result<String, AllocError> {
     match job {
         Job::Batch { db, at } => format!(in alloc;
@@ -46,6 +46,16 @@ fn format_job(alloc: Global, job: &Job) -> Result<String, AllocError> {
         } => {
             let (account, from, to) = (account.get(), from.get(), to.get());
             format!(in alloc; "statement {db} {account} {from} {to}")
+        }
+        Job::Statements {
+            db,
+            from,
+            to,
+            customer,
+        } => {
+            let customer = customer.map(|id| id.get()).unwrap_or(0);
+            let (from, to) = (from.get(), to.get());
+            format!(in alloc; "statements {db} {from} {to} {customer}")
         }
         Job::Ask {
             db,
@@ -137,7 +147,7 @@ fn expect_parsed_command_line(alloc: Global, line: &str, wanted: &[&str]) -> Res
 }
 
 // Command lines, each with the text of the job that it requests, or with `day`.
-const JOBS: [(&str, &str); 18] = [
+const JOBS: [(&str, &str); 21] = [
     ("brk|batch", "batch - -1"),
     ("brk|batch|--db|a b.db", "batch a b.db -1"),
     ("brk|batch|--at|0", "batch - 0"),
@@ -152,6 +162,14 @@ const JOBS: [(&str, &str); 18] = [
     (
         "brk|statement|--to|1970-01-01|--from|9999-12-31|--account|1000000000000|--db|a",
         "statement a 1000000000000 2932896 0",
+    ),
+    (
+        "brk|statements|--db|a.db|--from|2024-03-01|--to|2024-03-31",
+        "statements a.db 19783 19813 0",
+    ),
+    (
+        "brk|statements|--customer|1000000000000|--to|1970-01-01|--from|9999-12-31|--db|a",
+        "statements a 2932896 0 1000000000000",
     ),
     (
         "brk|ask|--db|a.db|--heads|customer|10",
@@ -187,6 +205,10 @@ const JOBS: [(&str, &str); 18] = [
     ),
     (
         "brk|statement|--db|a|--account|1|--from|2024-03-01|--to|1.3.2024",
+        "day",
+    ),
+    (
+        "brk|statements|--db|a|--from|2024-03-01|--to|2024-03-00",
         "day",
     ),
 ];

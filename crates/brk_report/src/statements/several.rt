@@ -1,0 +1,61 @@
+//! The statements of several accounts, one after the other.
+
+ghost use Rattle.std.specs.Prelude.{◌≤◌};
+ghost use Rattle.brk_report.specs.StatementsOutput.{AccountOfSeveralPost, StatementsPost};
+
+use crate::statements::writing::{StatementFault, statement};
+use brk_desk::Desk;
+use brk_money::{Day, Fault, Id, Refusal};
+use brk_report_lines::ReportFault;
+use sqlite::Alter;
+use std::alloc::Global;
+use std::io::Write;
+
+// The account was read before, so a refusal means that the store does not hold its row any more.
+fn write_account_of_several<W: Write, S: Alter>(
+    alloc: Global,
+    desk: &mut Desk<S>,
+    account: Id,
+    from: Day,
+    to: Day,
+    writer: &mut W,
+) -> Result<(), StatementFault>
+    requires { from ≤ to }
+    ensures told { AccountOfSeveralPost S.Store desk.old desk.new account from to (W.contents writer.old) (W.contents writer.new) result }
+{
+    match statement(alloc, desk, account, from, to, writer) {
+        Err(ReportFault::Refused(_)) => Err(ReportFault::Desk(Fault::Store)),
+        result => result,
+    }
+}
+
+/// Writes the statements of all accounts, or of those of a customer, one after the other, each as
+/// `statement` writes it, by id, ascending.
+///
+/// Fails, with nothing written, with refusal 18 (`BadText`) if `from` is after `to`, otherwise with
+/// 2 (`NoCustomer`) if there is no such customer. After any other fault a prefix of the text is
+/// written: whole lines, and after `Write` a part of the next. The call leaves an open database
+/// unchanged and adds nothing to what a crash may expose.
+pub fn statements<W: Write, S: Alter>(
+    alloc: Global,
+    desk: &mut Desk<S>,
+    customer: Option<Id>,
+    from: Day,
+    to: Day,
+    writer: &mut W,
+) -> Result<(), StatementFault>
+    ensures stated { StatementsPost S.Store desk.old desk.new customer from to (W.contents writer.old) (W.contents writer.new) result }
+{
+    if to.get() < from.get() {
+        return Err(ReportFault::Refused(Refusal::BadText));
+    }
+    let accounts = match desk.statement_accounts(alloc, customer) {
+        Ok(Ok(accounts)) => accounts,
+        Ok(Err(refusal)) => return Err(ReportFault::Refused(refusal)),
+        Err(fault) => return Err(ReportFault::Desk(fault.into())),
+    };
+    for account in &accounts {
+        write_account_of_several(alloc, desk, *account, from, to, writer)?;
+    }
+    Ok(())
+}
