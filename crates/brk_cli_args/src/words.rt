@@ -278,10 +278,12 @@ fn customer_id(matches: &ArgMatches<'_>) -> Option<Id>
 fn statements_job(alloc: Global, matches: &ArgMatches<'_>) -> Result<Job, UsageFault>
     ensures { IfOk result (IsRequestedJob (codes "statements") (found_of matches.now)) }
 {
+    let first = parse_day_arg(matches, "from")?;
+    let last = parse_day_arg(matches, "to")?;
     Ok(Job::Statements {
         db: argument_text(alloc, matches, "db")?,
-        from: parse_day_arg(matches, "from")?,
-        to: parse_day_arg(matches, "to")?,
+        from: first,
+        to: last,
         customer: customer_id(matches),
     })
 }

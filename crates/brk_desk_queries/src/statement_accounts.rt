@@ -1,6 +1,6 @@
 //! The accounts whose statements are written one after the other.
 
-ghost use Rattle.std.specs.Prelude.{◌≡◌, ◌==◌, IfOk, filter, map};
+ghost use Rattle.std.specs.Prelude.{◌≡◌, IfOk, Some, map};
 ghost use Rattle.brk_desk_queries.specs.Heads.{AreAccountsOfStatements};
 ghost use Rattle.brk_ref.specs.Records.{abstract_account_row};
 ghost use Rattle.brk_store_transactions.specs.Holds.{ReadPost};
@@ -21,15 +21,19 @@ fn account_ids(alloc: Global, rows: &[AccountRow]) -> Result<Vec<Id>, AllocError
     Ok(ids)
 }
 
-fn customer_account_ids<S: Alter>(
+// Refuses an unknown customer with `NoCustomer`.
+fn customer_accounts<S: Alter>(
     alloc: Global,
     store: &mut Store<S>,
     customer: Id,
-) -> Result<Vec<Id>, CallFault>
-    ensures { ReadPost S.Store store.old store.new result (λ ids t. ids.items ≡ map (λ a. a.id) (filter (λ a. a.customer == customer) t.accounts)) }
+) -> Planned<Vec<Id>, CallFault>
+    ensures { ReadPost S.Store store.old store.new result (AreAccountsOfStatements (Some customer)) }
 {
-    let rows = store.accounts_of_customer(alloc, customer)?;
-    Ok(account_ids(alloc, rows.as_slice())?)
+    let Some(found) = store.customer(customer)? else {
+        return Ok(Err(Refusal::NoCustomer));
+    };
+    let rows = store.accounts_of_customer(alloc, found.id)?;
+    Ok(Ok(account_ids(alloc, rows.as_slice())?))
 }
 
 /// Returns the ids of all accounts, or of those of a customer, ascending. Refuses an unknown
@@ -41,11 +45,8 @@ pub fn statement_accounts<S: Alter>(
 ) -> Planned<Vec<Id>, CallFault>
     ensures { ReadPost S.Store store.old store.new result (AreAccountsOfStatements customer) }
 {
-    let Some(customer) = customer else {
-        return Ok(Ok(store.account_ids(alloc)?));
-    };
-    let Some(found) = store.customer(customer)? else {
-        return Ok(Err(Refusal::NoCustomer));
-    };
-    Ok(Ok(customer_account_ids(alloc, store, found.id)?))
+    match customer {
+        Some(customer) => customer_accounts(alloc, store, customer),
+        None => Ok(Ok(store.account_ids(alloc)?)),
+    }
 }

@@ -8,3 +8,4 @@ pub mod Reported
 pub mod Section
 pub mod Whole
 pub mod Several
+pub mod SeveralPosts

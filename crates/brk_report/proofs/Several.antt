@@ -1,5 +1,5 @@
 -- The statements of several accounts, written one after the other.
-use Rattle.std.proofs.Common.{◌≡◌, ◌∙◌, ◌+◌, ◌<◌, ◌++◌, ◌==◌, ℕ, Bool, true, false, List, [], ◌∷◌, Option, Some, None, Result, Ok, Err, suc, zero, ap, append-nil, arith, drop, filter, find, get_or, inl, inr, length, map, refl, subst, sym, take}
+use Rattle.std.proofs.Common.{◌≡◌, ◌∙◌, ◌+◌, ◌<◌, ◌++◌, ◌==◌, ℕ, Bool, true, false, List, [], ◌∷◌, Option, Some, None, Result, Ok, Err, IfErr, suc, zero, ap, append-nil, arith, drop, filter, find, get_or, inl, inr, length, map, refl, subst, sym, take}
 use Rattle.std.specs.Prelude.{flat_map, is_some, nat_lt}
 use Rattle.std.specs.Io.KnownBytes.{Appends}
 use Rattle.std.proofs.lemmas.Bool.{eq-eqb, eqb-true}
@@ -18,13 +18,13 @@ use Rattle.brk_io.specs.declared.report_fault.ReportFault.{ReportFault}
 use Rattle.brk_io.specs.declared.report_fault.ReportFault.TheVariants.{Refused, Desk, Write}
 use Rattle.brk_report_lines.specs.Written.{FailsWithinLines, WritesProperPrefixOfLines}
 use Rattle.brk_report_lines.proofs.Composed.{breaks_before, breaks_behind, lines_parts, then_all}
-use Rattle.brk_report.specs.StatementOutput.{AreStatementLines, WritesStatement}
-use Rattle.brk_report.specs.StatementsOutput.{AreLinesOfStatements, HasAccount, WritesReportLines, WritesStatements, lines_of_account}
+use Rattle.brk_report.specs.StatementOutput.{AreStatementLines, IsReportFaultOtherThanDamage, WritesStatement}
+use Rattle.brk_report.specs.StatementsOutput.{HasAccount, HasAccounts, IsFaultOfCallOrWriter, WritesReportLines, WritesStatements, lines_of_account}
 use Rattle.brk_report.proofs.Whole.{passes_found, statement_is}
 
 -- ---- each account that is read exists
 
-abbrev pub Each : (ℕ → Type 0) → List ℕ → Type 0
+abbrev Each : (ℕ → Type 0) → List ℕ → Type 0
 Each P [] = Unit {0}
 Each P (x ∷ xs) = P x × Each P xs
 
@@ -32,10 +32,14 @@ each_weaker : (P Q : ℕ → Type 0) (xs : List ℕ) → ((n : ℕ) → P n → 
 each_weaker P Q [] weaker h = tt
 each_weaker P Q (x ∷ xs) weaker h = (weaker x h.0, each_weaker P Q xs weaker h.1)
 
-pub each_at : (P : ℕ → Type 0) (xs : List ℕ) (i x : ℕ) → Each P xs → i < length xs → x ≡ get_or xs i x → P x
-each_at P [] i x h lt is = absurd (omega arith)
-each_at P (y ∷ ys) zero x h lt is = subst P (sym is) h.0
-each_at P (y ∷ ys) (suc i) x h lt is = each_at P ys i x h.1 (omega arith) is
+as_accounts : (t : Tables) (xs : List ℕ) → Each (HasAccount t) xs → HasAccounts t xs
+as_accounts t [] h = tt
+as_accounts t (x ∷ xs) h = (h.0, as_accounts t xs h.1)
+
+pub account_at : (t : Tables) (xs : List ℕ) (i x : ℕ) → HasAccounts t xs → i < length xs → x ≡ get_or xs i x → HasAccount t x
+account_at t [] i x h lt is = absurd (omega arith)
+account_at t (y ∷ ys) zero x h lt is = subst (HasAccount t) (sym is) h.0
+account_at t (y ∷ ys) (suc i) x h lt is = account_at t ys i x h.1 (omega arith) is
 
 abbrev IsFound : List AccountRow → ℕ → Type 0
 IsFound rows n = (a : AccountRow) × (find (λ (row : AccountRow). row.id == n) rows ≡ Some a)
@@ -65,23 +69,22 @@ some_found p (row ∷ rows) = go (p row) refl
     go true e = rw e (found_first row rows, later)
     go false e = rw e later
 
-pub accounts_exist : (t : Tables) (customer : Option ℕ) (accounts : List ℕ) → accounts_or_refusal t customer ≡ Ok accounts → Each (HasAccount t) accounts
-accounts_exist t None accounts e = let same : map (λ (row : AccountRow). row.id) t.accounts ≡ accounts = cc in subst (Each (HasAccount t)) same (all_found t.accounts)
+pub accounts_exist : (t : Tables) (customer : Option ℕ) (accounts : List ℕ) → accounts_or_refusal t customer ≡ Ok accounts → HasAccounts t accounts
+accounts_exist t None accounts e =
+    let same : map (λ (row : AccountRow). row.id) t.accounts ≡ accounts = cc in
+    as_accounts t accounts (subst (Each (HasAccount t)) same (all_found t.accounts))
 accounts_exist t (Some customer) accounts e = go (is_some (find (λ c. c.id == customer) t.customers)) refl
   where
-    go : (b : Bool) → is_some (find (λ c. c.id == customer) t.customers) ≡ b → Each (HasAccount t) accounts
+    go : (b : Bool) → is_some (find (λ c. c.id == customer) t.customers) ≡ b → HasAccounts t accounts
     go true is =
-        let found = rw is at e in
+        let found : Ok (map (λ (row : AccountRow). row.id) (filter (λ a. a.customer == customer) t.accounts)) ≡ Ok accounts = rw is at e in
         let same : map (λ (row : AccountRow). row.id) (filter (λ a. a.customer == customer) t.accounts) ≡ accounts = cc in
-        subst (Each (HasAccount t)) same (some_found (λ a. a.customer == customer) t.accounts)
+        as_accounts t accounts (subst (Each (HasAccount t)) same (some_found (λ a. a.customer == customer) t.accounts))
     go false is = let refused = rw is at e in cc
 
 -- ---- the statement of one of them
 
 module _ (t : Tables) (account from to : ℕ) (days : nat_lt to from ≡ false) (has : HasAccount t account) where
-  lines : List Text
-  lines = lines_of_account t from to account
-
   abbrev its_lines : List Text
   its_lines = statement_lines t has.0 from to (sorted_cash_rows_of_account t has.0.id)
 
@@ -105,15 +108,21 @@ module _ (t : Tables) (account from to : ℕ) (days : nat_lt to from ≡ false) 
   none_yet : (a b : Option Text) → Appends a b [] → WritesProperPrefixOfLines (lines_of_account t from to account) a b
   none_yet a b h = subst (λ (l : List Text). WritesProperPrefixOfLines l a b) (sym are_its) ([], _, _, refl, h)
 
-  -- what writing its statement did
+  -- what writing its statement did, or the fault for a refusal, which there cannot be
   pub told_once : (a b : Option Text) (r : Result (Unit {0}) ReportFault) → WritesStatement t account from to a b r → ((refusal : Refusal) → r ≡ Err (Refused refusal) → ⊥)
       → WritesReportLines (lines_of_account t from to account) a b r
-  told_once a b (Ok u) h never = let same : Ok h.0 ≡ Ok (text_of_lines (lines_of_account t from to account)) = sym h.1 ∙ its_text in subst (Appends a b) (let text : h.0 ≡ text_of_lines (lines_of_account t from to account) = cc in text) h.2
+  told_once a b (Ok u) h never =
+      let same : Ok h.0 ≡ Ok (text_of_lines (lines_of_account t from to account)) = sym h.1 ∙ its_text in
+      let text : h.0 ≡ text_of_lines (lines_of_account t from to account) = cc in
+      subst (Appends a b) text h.2
   told_once a b (Err (Refused refusal)) h never = absurd (never refusal refl)
-  told_once a b (Err (Desk fault)) h never = (h.0, elim h.1 [
-    | inl none ↦ none_yet a b none
-    | inr some ↦ subst (λ (l : List Text). WritesProperPrefixOfLines l a b) (same_as_its some.0 some.1) some.2
-  ])
+  told_once a b (Err (Desk fault)) h never = (
+    h.0,
+    elim h.1 [
+      | inl none ↦ none_yet a b none
+      | inr some ↦ subst (λ (l : List Text). WritesProperPrefixOfLines l a b) (same_as_its some.0 some.1) some.2
+    ],
+  )
   told_once a b (Err Write) h never = subst (λ (l : List Text). FailsWithinLines l a b lines_fault.Write) (same_as_its h.0 h.1) h.2
 
   pub never_refused : (refusal : Refusal) → statement t account from to ≡ Err refusal → ⊥
@@ -139,14 +148,20 @@ at_one f xs i x lt is =
     ∙ ap (flat_map f) (take-append-drop (i + 1) xs)
 
 -- where one breaks off, all do
-all_break : (f : ℕ → List Text) (xs : List ℕ) (i x : ℕ) (a b c : Option Text) (e : LinesFault) → i < length xs → x ≡ get_or xs i x
+break_at : (f : ℕ → List Text) (xs : List ℕ) (i x : ℕ) (a b c : Option Text) (e : LinesFault) → i < length xs → x ≡ get_or xs i x
     → Appends a b (text_of_lines (flat_map f (take i xs))) → FailsWithinLines (f x) b c e → FailsWithinLines (flat_map f xs) a c e
-all_break f xs i x a b c e lt is before h =
+break_at f xs i x a b c e lt is before h =
     subst (λ (l : List Text). FailsWithinLines l a c e) (at_one f xs i x lt is)
     (breaks_before (flat_map f (take i xs) ++ f x) (flat_map f (drop (i + 1) xs)) a c e (breaks_behind (flat_map f (take i xs)) (f x) a b c e before h))
 
+pub all_break : (f : ℕ → List Text) (xs : List ℕ) (i x : ℕ) (a b c : Option Text) (e : ReportFault) → i < length xs → x ≡ get_or xs i x
+    → Appends a b (text_of_lines (flat_map f (take i xs))) → WritesReportLines (f x) b c (Err e) → WritesReportLines (flat_map f xs) a c (Err e)
+all_break f xs i x a b c (Refused refusal) lt is before h = absurd h
+all_break f xs i x a b c (Desk fault) lt is before h = (h.0, break_at f xs i x a b c (lines_fault.Desk call.Store) lt is before h.1)
+all_break f xs i x a b c Write lt is before h = break_at f xs i x a b c lines_fault.Write lt is before h
+
 module _ (t : Tables) (customer : Option ℕ) (from to : ℕ) (days : nat_lt to from ≡ false) (accounts : List ℕ) (read : accounts_or_refusal t customer ≡ Ok accounts) where
-  texts_are : (ids : List ℕ) → Each (HasAccount t) ids
+  texts_are : (ids : List ℕ) → HasAccounts t ids
       → text_of_lines (flat_map (lines_of_account t from to) ids) ≡ flat_map (λ account. text_or_none (statement t account from to)) ids
   texts_are [] each = refl
   texts_are (id ∷ ids) each =
@@ -157,17 +172,23 @@ module _ (t : Tables) (customer : Option ℕ) (from to : ℕ) (days : nat_lt to 
   unfolding statements
   whole_text = rw (days, read) (ap Ok (sym (texts_are accounts (accounts_exist t customer accounts read))))
 
-  pub states_each : (a b : Option Text) → Appends a b (text_of_lines (flat_map (lines_of_account t from to) accounts)) → WritesStatements t customer from to a b (Ok tt)
-  states_each a b h = (text_of_lines (flat_map (lines_of_account t from to) accounts), whole_text, h)
+  -- what writing the lines of the accounts did
+  pub states_each : (a b : Option Text) (r : Result (Unit {0}) ReportFault) → WritesReportLines (flat_map (lines_of_account t from to) accounts) a b r
+      → WritesStatements t customer from to a b r
+  states_each a b (Ok u) h = (text_of_lines (flat_map (lines_of_account t from to) accounts), whole_text, h)
+  states_each a b (Err (Refused refusal)) h = absurd h
+  states_each a b (Err (Desk fault)) h = (h.0, inr (flat_map (lines_of_account t from to) accounts, (days, (accounts, read, refl)), h.1))
+  states_each a b (Err Write) h = (flat_map (lines_of_account t from to) accounts, (days, (accounts, read, refl)), h)
 
-  pub stops_at : (a b c : Option Text) (i account : ℕ) (fault : ReportFault) → i < length accounts → account ≡ get_or accounts i account
-      → Appends a b (text_of_lines (flat_map (lines_of_account t from to) (take i accounts)))
-      → WritesReportLines (lines_of_account t from to account) b c (Err fault) → WritesStatements t customer from to a c (Err fault)
-  stops_at a b c i account (Refused refusal) lt is before h = absurd h
-  stops_at a b c i account (Desk fault) lt is before h =
-      (h.0, inr (_, (days, (accounts, read, refl)), all_break (lines_of_account t from to) accounts i account a b c (lines_fault.Desk call.Store) lt is before h.1))
-  stops_at a b c i account Write lt is before h =
-      (_, (days, (accounts, read, refl)), all_break (lines_of_account t from to) accounts i account a b c lines_fault.Write lt is before h)
+-- no fault of the lines is a refusal
+pub lines_fault_is_report_fault : (r : Result (Unit {0}) ReportFault) → IfErr r IsFaultOfCallOrWriter → IfErr r IsReportFaultOtherThanDamage
+lines_fault_is_report_fault (Ok u) h = tt
+lines_fault_is_report_fault (Err (Refused refusal)) h = absurd h
+lines_fault_is_report_fault (Err (Desk fault)) h = h
+lines_fault_is_report_fault (Err Write) h = tt
+
+pub lines_are_not_refused : (r : Result (Unit {0}) ReportFault) (refusal : Refusal) → IfErr r IsFaultOfCallOrWriter → r ≡ Err (Refused refusal) → ⊥
+lines_are_not_refused r refusal h is = subst (λ (x : Result (Unit {0}) ReportFault). IfErr x IsFaultOfCallOrWriter) is h
 
 pub refused_for_days : (t : Tables) (customer : Option ℕ) (from to : ℕ) → nat_lt to from ≡ true → statements t customer from to ≡ Err BadText
 unfolding statements

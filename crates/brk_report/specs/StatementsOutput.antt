@@ -1,7 +1,7 @@
 -- The output of the statements of several accounts, one after the other, which changes nothing.
 -- `from` and `to` are UTC days since 1970-01-01. Output conditions (`Appends`) are vacuous if the
 -- writer's content before is unknown.
-use Rattle.std.specs.Prelude.{◌≡◌, ◌⊎◌, ℕ, List, [], IfErr, Option, Some, Result, Ok, Err, flat_map, nat_lt, false}
+use Rattle.std.specs.Prelude.{◌≡◌, ◌⊎◌, ℕ, List, [], ◌∷◌, IfErr, Option, Some, Result, Ok, Err, flat_map, nat_lt, false}
 use Rattle.std.specs.Option.{option_map_or}
 use Rattle.std.specs.Io.KnownBytes.{Appends}
 use Rattle.sqlite_trees.specs.declared.store.Store.{Ghosts}
@@ -57,11 +57,16 @@ pub record StatementsPost {S : Type 0} (g : Ghosts S) (old new : Held S) (custom
   -- Nothing is written if the statements are refused.
   pub unwritten : (refusal : _) → result ≡ Err (Refused refusal) → after ≡ before
 
--- ---- one account of several
+-- ---- the accounts that were read
 
 -- The account with the id `account` exists.
 abbrev pub HasAccount : Tables → ℕ → Type 0
 HasAccount t account = (a : AccountRow) × (account_row_with_id t account ≡ Some a)
+
+-- Each of the accounts exists.
+abbrev pub HasAccounts : Tables → List ℕ → Type 0
+HasAccounts t [] = Unit {0}
+HasAccounts t (account ∷ accounts) = HasAccount t account × HasAccounts t accounts
 
 -- The result of writing `lines`, which are never refused. `Ok`: exactly these were written. `Desk`:
 -- the fault is `Memory` or `Store`, and the first lines were written whole, perhaps none and never
@@ -72,10 +77,16 @@ WritesReportLines lines old new (Err (Refused refusal)) = ⊥
 WritesReportLines lines old new (Err (Desk fault)) = IsCallFault fault × WritesProperPrefixOfLines lines old new
 WritesReportLines lines old new (Err Write) = WritesLinesAndPartOfNext lines old new
 
--- The postcondition of writing the statement of one account of several: its lines, if the account
--- exists (`WritesReportLines`); the desk is unchanged. `before` and `after` are the writer's content.
-pub record AccountOfSeveralPost {S : Type 0} (g : Ghosts S) (old new : Held S) (account from to : ℕ) (before after : Option Text)
+-- The fault is one of the desk, `Memory` or `Store`, or one of the writer, and no refusal.
+abbrev pub IsFaultOfCallOrWriter : ReportFault → Type 0
+IsFaultOfCallOrWriter (Refused refusal) = ⊥
+IsFaultOfCallOrWriter (Desk fault) = IsCallFault fault
+IsFaultOfCallOrWriter Write = Unit {0}
+
+-- The postcondition of writing `lines` of the tables, if `Exist` holds of them (`WritesReportLines`):
+-- a fault of the desk is `Memory` or `Store`, nothing is refused, and the desk is unchanged.
+pub record ReportLinesPost {S : Type 0} (g : Ghosts S) (old new : Held S) (Exist : Tables → Type 0) (lines : Tables → List Text) (before after : Option Text)
     (result : Result (Unit {0}) ReportFault) : Type 0 where
-  pub written : HoldsForStoredTables g old new (λ t. HasAccount t account → WritesReportLines (lines_of_account t from to account) before after result)
-  pub fault : IfErr result (λ fault. IsReportFaultOtherThanDamage fault × ((refusal : _) → fault ≡ Refused refusal → ⊥))
+  pub written : HoldsForStoredTables g old new (λ t. Exist t → WritesReportLines (lines t) before after result)
+  pub fault : IfErr result IsFaultOfCallOrWriter
   pub desk_unchanged : PreservesDesk g old new

@@ -1,7 +1,7 @@
 //! The statements of several accounts, one after the other.
 
-ghost use Rattle.std.specs.Prelude.{◌≤◌};
-ghost use Rattle.brk_report.specs.StatementsOutput.{AccountOfSeveralPost, StatementsPost};
+ghost use Rattle.std.specs.Prelude.{◌≤◌, flat_map};
+ghost use Rattle.brk_report.specs.StatementsOutput.{HasAccount, HasAccounts, ReportLinesPost, StatementsPost, lines_of_account};
 
 use crate::statements::writing::{StatementFault, statement};
 use brk_desk::Desk;
@@ -12,7 +12,7 @@ use std::alloc::Global;
 use std::io::Write;
 
 // The account was read before, so a refusal means that the store does not hold its row any more.
-fn write_account_of_several<W: Write, S: Alter>(
+fn write_account<W: Write, S: Alter>(
     alloc: Global,
     desk: &mut Desk<S>,
     account: Id,
@@ -21,12 +21,31 @@ fn write_account_of_several<W: Write, S: Alter>(
     writer: &mut W,
 ) -> Result<(), StatementFault>
     requires { from ≤ to }
-    ensures told { AccountOfSeveralPost S.Store desk.old desk.new account from to (W.contents writer.old) (W.contents writer.new) result }
+    ensures { ReportLinesPost S.Store desk.old desk.new (λ t. HasAccount t account) (λ t. lines_of_account t from to account)
+        (W.contents writer.old) (W.contents writer.new) result }
 {
     match statement(alloc, desk, account, from, to, writer) {
         Err(ReportFault::Refused(_)) => Err(ReportFault::Desk(Fault::Store)),
         result => result,
     }
+}
+
+fn write_accounts<W: Write, S: Alter>(
+    alloc: Global,
+    desk: &mut Desk<S>,
+    accounts: &[Id],
+    from: Day,
+    to: Day,
+    writer: &mut W,
+) -> Result<(), StatementFault>
+    requires { from ≤ to }
+    ensures { ReportLinesPost S.Store desk.old desk.new (λ t. HasAccounts t accounts.now) (λ t. flat_map (lines_of_account t from to) accounts.now)
+        (W.contents writer.old) (W.contents writer.new) result }
+{
+    for account in accounts {
+        write_account(alloc, desk, *account, from, to, writer)?;
+    }
+    Ok(())
 }
 
 /// Writes the statements of all accounts, or of those of a customer, one after the other, each as
@@ -54,8 +73,5 @@ pub fn statements<W: Write, S: Alter>(
         Ok(Err(refusal)) => return Err(ReportFault::Refused(refusal)),
         Err(fault) => return Err(ReportFault::Desk(fault.into())),
     };
-    for account in &accounts {
-        write_account_of_several(alloc, desk, *account, from, to, writer)?;
-    }
-    Ok(())
+    write_accounts(alloc, desk, accounts.as_slice(), from, to, writer)
 }
