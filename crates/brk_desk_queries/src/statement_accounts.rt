@@ -33,7 +33,8 @@ fn customer_accounts<S: Alter>(
         return Ok(Err(Refusal::NoCustomer));
     };
     let rows = store.accounts_of_customer(alloc, found.id)?;
-    Ok(Ok(account_ids(alloc, rows.as_slice())?))
+    let ids = account_ids(alloc, rows.as_slice())?;
+    Ok(Ok(ids))
 }
 
 /// Returns the ids of all accounts, or of those of a customer, ascending. Refuses an unknown
@@ -47,6 +48,9 @@ pub fn statement_accounts<S: Alter>(
 {
     match customer {
         Some(customer) => customer_accounts(alloc, store, customer),
-        None => Ok(Ok(store.account_ids(alloc)?)),
+        None => {
+            let ids = store.account_ids(alloc)?;
+            Ok(Ok(ids))
+        }
     }
 }

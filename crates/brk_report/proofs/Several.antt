@@ -19,7 +19,7 @@ use Rattle.brk_io.specs.declared.report_fault.ReportFault.TheVariants.{Refused, 
 use Rattle.brk_report_lines.specs.Written.{FailsWithinLines, WritesProperPrefixOfLines}
 use Rattle.brk_report_lines.proofs.Composed.{breaks_before, breaks_behind, lines_parts, then_all}
 use Rattle.brk_report.specs.StatementOutput.{AreStatementLines, IsReportFaultOtherThanDamage, WritesStatement}
-use Rattle.brk_report.specs.StatementsOutput.{HasAccount, HasAccounts, IsFaultOfCallOrWriter, WritesReportLines, WritesStatements, lines_of_account}
+use Rattle.brk_report.specs.StatementsOutput.{HasAccount, HasAccounts, IsFaultOfCallOrWriter, WritesReportLines, WritesStatements, lines_of_account, without_refusal}
 use Rattle.brk_report.proofs.Whole.{passes_found, statement_is}
 
 -- ---- each account that is read exists
@@ -108,25 +108,24 @@ module _ (t : Tables) (account from to : ℕ) (days : nat_lt to from ≡ false) 
   none_yet : (a b : Option Text) → Appends a b [] → WritesProperPrefixOfLines (lines_of_account t from to account) a b
   none_yet a b h = subst (λ (l : List Text). WritesProperPrefixOfLines l a b) (sym are_its) ([], _, _, refl, h)
 
-  -- what writing its statement did, or the fault for a refusal, which there cannot be
-  pub told_once : (a b : Option Text) (r : Result (Unit {0}) ReportFault) → WritesStatement t account from to a b r → ((refusal : Refusal) → r ≡ Err (Refused refusal) → ⊥)
-      → WritesReportLines (lines_of_account t from to account) a b r
-  told_once a b (Ok u) h never =
+  -- what writing its statement did; it is not refused
+  pub told_once : (a b : Option Text) (r : Result (Unit {0}) ReportFault) → WritesStatement t account from to a b r
+      → WritesReportLines (lines_of_account t from to account) a b (without_refusal r)
+  told_once a b (Ok u) h =
       let same : Ok h.0 ≡ Ok (text_of_lines (lines_of_account t from to account)) = sym h.1 ∙ its_text in
       let text : h.0 ≡ text_of_lines (lines_of_account t from to account) = cc in
       subst (Appends a b) text h.2
-  told_once a b (Err (Refused refusal)) h never = absurd (never refusal refl)
-  told_once a b (Err (Desk fault)) h never = (
+  told_once a b (Err (Refused refusal)) h =
+      let both : Ok (text_of_lines (lines_of_account t from to account)) ≡ Err refusal = sym its_text ∙ h in
+      absurd (let differ = both in cc)
+  told_once a b (Err (Desk fault)) h = (
     h.0,
     elim h.1 [
       | inl none ↦ none_yet a b none
       | inr some ↦ subst (λ (l : List Text). WritesProperPrefixOfLines l a b) (same_as_its some.0 some.1) some.2
     ],
   )
-  told_once a b (Err Write) h never = subst (λ (l : List Text). FailsWithinLines l a b lines_fault.Write) (same_as_its h.0 h.1) h.2
-
-  pub never_refused : (refusal : Refusal) → statement t account from to ≡ Err refusal → ⊥
-  never_refused refusal e = let both : Ok (text_of_lines (lines_of_account t from to account)) ≡ Err refusal = sym its_text ∙ e in cc
+  told_once a b (Err Write) h = subst (λ (l : List Text). FailsWithinLines l a b lines_fault.Write) (same_as_its h.0 h.1) h.2
 
 -- ---- one after the other
 

@@ -7,6 +7,7 @@ use Rattle.std.specs.Io.KnownBytes.{Appends}
 use Rattle.sqlite_trees.specs.declared.store.Store.{Ghosts}
 use Rattle.sqlite.specs.Held.{Held}
 use Rattle.brk_money.specs.Spelling.{Text}
+use Rattle.brk_money.specs.declared.fault.Fault.TheVariants.{Store}
 use Rattle.brk_model.specs.Joins.{account_row_with_id}
 use Rattle.brk_model.specs.Run.{IsCallFault}
 use Rattle.brk_model.specs.Statement.{sorted_cash_rows_of_account, statement_lines, text_of_lines}
@@ -76,6 +77,13 @@ WritesReportLines lines old new (Ok u) = Appends old new (text_of_lines lines)
 WritesReportLines lines old new (Err (Refused refusal)) = ⊥
 WritesReportLines lines old new (Err (Desk fault)) = IsCallFault fault × WritesProperPrefixOfLines lines old new
 WritesReportLines lines old new (Err Write) = WritesLinesAndPartOfNext lines old new
+
+-- The result, with the fault `Store` of the desk in place of a refusal.
+abbrev pub without_refusal : Result (Unit {0}) ReportFault → Result (Unit {0}) ReportFault
+without_refusal (Ok u) = Ok u
+without_refusal (Err (Refused refusal)) = Err (Desk Store)
+without_refusal (Err (Desk fault)) = Err (Desk fault)
+without_refusal (Err Write) = Err Write
 
 -- The fault is one of the desk, `Memory` or `Store`, or one of the writer, and no refusal.
 abbrev pub IsFaultOfCallOrWriter : ReportFault → Type 0

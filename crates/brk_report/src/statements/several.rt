@@ -1,7 +1,7 @@
 //! The statements of several accounts, one after the other.
 
-ghost use Rattle.std.specs.Prelude.{◌≤◌, flat_map};
-ghost use Rattle.brk_report.specs.StatementsOutput.{HasAccount, HasAccounts, ReportLinesPost, StatementsPost, lines_of_account};
+ghost use Rattle.std.specs.Prelude.{◌≡◌, ◌≤◌, flat_map};
+ghost use Rattle.brk_report.specs.StatementsOutput.{HasAccount, HasAccounts, ReportLinesPost, StatementsPost, lines_of_account, without_refusal};
 
 use crate::statements::writing::{StatementFault, statement};
 use brk_desk::Desk;
@@ -11,7 +11,18 @@ use sqlite::Alter;
 use std::alloc::Global;
 use std::io::Write;
 
-// The account was read before, so a refusal means that the store does not hold its row any more.
+// An account that was read is never refused: the store would not hold its row any more.
+fn store_fault_if_refused(ended: Result<(), StatementFault>) -> Result<(), StatementFault>
+    ensures { result ≡ without_refusal ended }
+{
+    match ended {
+        Ok(()) => Ok(()),
+        Err(ReportFault::Refused(_)) => Err(ReportFault::Desk(Fault::Store)),
+        Err(ReportFault::Desk(fault)) => Err(ReportFault::Desk(fault)),
+        Err(ReportFault::Write) => Err(ReportFault::Write),
+    }
+}
+
 fn write_account<W: Write, S: Alter>(
     alloc: Global,
     desk: &mut Desk<S>,
@@ -24,10 +35,7 @@ fn write_account<W: Write, S: Alter>(
     ensures { ReportLinesPost S.Store desk.old desk.new (λ t. HasAccount t account) (λ t. lines_of_account t from to account)
         (W.contents writer.old) (W.contents writer.new) result }
 {
-    match statement(alloc, desk, account, from, to, writer) {
-        Err(ReportFault::Refused(_)) => Err(ReportFault::Desk(Fault::Store)),
-        result => result,
-    }
+    store_fault_if_refused(statement(alloc, desk, account, from, to, writer))
 }
 
 fn write_accounts<W: Write, S: Alter>(

@@ -42,9 +42,9 @@ pub returns : goal.returns
 returns g c =
     let id = c.args.customer in
     let x = c.in-Some.found in
-    read_with g.S.Store c.args.store.now c.customer.new.self c.accounts_of_customer.new.self {X = Result (Vec ℕ) Refusal} {H = CallFault} (Some x) c.in_ok-rows.rows (Ok c.in_ok-account_ids.ids)
+    read_with g.S.Store c.args.store.now c.customer.new.self c.accounts_of_customer.new.self {X = Result (Vec ℕ) Refusal} {H = CallFault} (Some x) c.in_ok-rows.rows (Ok c.in_ok-ids.ids)
     (λ o (t : Tables). option_map abstract_customer o ≡ find (λ r. r.id == id) t.customers)
     (λ all (t : Tables). map abstract_account_row all.items ≡ filter (λ (a : AccountRow). a.customer == x.id) t.accounts)
     (AreAccountsOfStatements (Some id))
-    (λ t e read. its_accounts t id (abstract_customer x) c.in_ok-rows.rows.items _ e read c.in_ok-account_ids.ensures)
+    (λ t e read. its_accounts t id (abstract_customer x) c.in_ok-rows.rows.items _ e read c.in_ok-ids.ensures)
     (rw c.in-Some.is at c.in_ok-found.ensures.read) c.in_ok-rows.ensures.read
