@@ -60,14 +60,11 @@ all_found (row ∷ rows) = (found_first row rows, each_weaker (IsFound rows) (Is
 
 some_found : (p : AccountRow → Bool) (rows : List AccountRow) → Each (IsFound rows) (map (λ row. row.id) (filter p rows))
 some_found p [] = tt
-some_found p (row ∷ rows) = go (p row) refl
+some_found p (row ∷ rows) = go (p row) refl (each_weaker (IsFound rows) (IsFound (row ∷ rows)) _ (found_later row rows) (some_found p rows))
   where
-    later : Each (IsFound (row ∷ rows)) (map (λ row. row.id) (filter p rows))
-    later = each_weaker (IsFound rows) (IsFound (row ∷ rows)) _ (found_later row rows) (some_found p rows)
-
-    go : (b : Bool) → p row ≡ b → Each (IsFound (row ∷ rows)) (map (λ row. row.id) (filter p (row ∷ rows)))
-    go true e = rw e (found_first row rows, later)
-    go false e = rw e later
+    go : (b : Bool) → p row ≡ b → Each (IsFound (row ∷ rows)) (map (λ row. row.id) (filter p rows)) → Each (IsFound (row ∷ rows)) (map (λ row. row.id) (filter p (row ∷ rows)))
+    go true e later = rw e (found_first row rows, later)
+    go false e later = rw e later
 
 pub accounts_exist : (t : Tables) (customer : Option ℕ) (accounts : List ℕ) → accounts_or_refusal t customer ≡ Ok accounts → HasAccounts t accounts
 accounts_exist t None accounts e =
