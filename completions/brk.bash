@@ -29,6 +29,7 @@ _brk_is_before_value() {
     case "$1 $2" in
         "batch --db" | "batch --at") return 0 ;;
         "statement --db" | "statement --account" | "statement --from" | "statement --to") return 0 ;;
+        "statements --db" | "statements --from" | "statements --to" | "statements --customer") return 0 ;;
         "ask --db") return 0 ;;
         "explain --db") return 0 ;;
         "audit --db") return 0 ;;
@@ -45,6 +46,10 @@ _brk_value() {
         "statement --account") _brk_hint ID 'The account (from 1 to 1000000000000)' ;;
         "statement --from") _brk_hint DAY 'The first day, as 2024-03-01' ;;
         "statement --to") _brk_hint DAY 'The last day' ;;
+        "statements --db") _brk_files ;;
+        "statements --from") _brk_hint DAY 'The first day, as 2024-03-01' ;;
+        "statements --to") _brk_hint DAY 'The last day' ;;
+        "statements --customer") _brk_hint ID 'The customer; without it the accounts of all customers (from 1 to 1000000000000)' ;;
         "ask --db") _brk_files ;;
         "explain --db") _brk_files ;;
         "audit --db") _brk_files ;;
@@ -59,6 +64,7 @@ _brk_options() {
     case $1 in
         batch) echo '--db --at --help' ;;
         statement) echo '--db --account --from --to --help' ;;
+        statements) echo '--db --from --to --customer --help' ;;
         ask) echo '--db --json --heads --help' ;;
         explain) echo '--db --help' ;;
         audit) echo '--db --help' ;;
@@ -93,10 +99,11 @@ _brk_topic() {
 
 _brk_text() {
     case $1 in
-        '') _brk_words 'batch statement ask explain audit serve help' ;;
-        help) [[ ${#texts[@]} -gt 0 ]] || _brk_words 'batch statement ask explain audit serve' ;;
+        '') _brk_words 'batch statement statements ask explain audit serve help' ;;
+        help) [[ ${#texts[@]} -gt 0 ]] || _brk_words 'batch statement statements ask explain audit serve' ;;
         batch) [[ -n $ended ]] || _brk_words "$(_brk_options batch)" ;;
         statement) [[ -n $ended ]] || _brk_words "$(_brk_options statement)" ;;
+        statements) [[ -n $ended ]] || _brk_words "$(_brk_options statements)" ;;
         ask) if [[ ${#texts[@]} -eq 0 ]]; then _brk_words 'customer taxid recent status submitted estimate trades accounttrades symboltrades lots volume'; else _brk_view "${texts[0]}"; fi ;;
         explain) if [[ ${#texts[@]} -eq 0 ]]; then _brk_words 'trade account holding broker'; else _brk_topic "${texts[0]}"; fi ;;
         audit) [[ -n $ended ]] || _brk_words "$(_brk_options audit)" ;;

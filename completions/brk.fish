@@ -27,7 +27,7 @@ function __brk_is_bare
     while set -q words[1]
         if test "$words[1]" = --
             set -q words[2]; and return 1
-        else if contains -- "$words[1]" --account --at --db --from --port --streams --to
+        else if contains -- "$words[1]" --account --at --customer --db --from --port --streams --to
             set -e words[1]
         else if not string match -q -- '-*' "$words[1]"
             return 1
@@ -42,6 +42,7 @@ complete -c brk -n __brk_is_first -s h -l help -d 'Prints the help'
 complete -c brk -n __brk_is_first -s V -l version -d 'Prints the version, the schema of new files and the kit of the proofs'
 complete -c brk -n '__brk_is_first' -a batch -d 'Reads a batch from standard input and writes a line for each row'
 complete -c brk -n '__brk_is_first' -a statement -d 'Prints the statement of an account: its cash, day by day, and its lots'
+complete -c brk -n '__brk_is_first' -a statements -d 'Prints the statements of all accounts, or of a customer\'s, one after the other'
 complete -c brk -n '__brk_is_first' -a ask -d 'Prints a view of a desk: a CSV row for each record'
 complete -c brk -n '__brk_is_first' -a explain -d 'Prints how the amounts of a trade, an account, a holding or a broker come about'
 complete -c brk -n '__brk_is_first' -a audit -d 'Recomputes every derived table of a desk, and prints ok if all are right'
@@ -49,6 +50,7 @@ complete -c brk -n '__brk_is_first' -a serve -d 'Serves the desk over HTTP, one 
 complete -c brk -n '__brk_is_first' -a help -d 'Prints the commands, or the help of a command'
 complete -c brk -n '__brk_is_bare help' -a batch -d 'Reads a batch from standard input and writes a line for each row'
 complete -c brk -n '__brk_is_bare help' -a statement -d 'Prints the statement of an account: its cash, day by day, and its lots'
+complete -c brk -n '__brk_is_bare help' -a statements -d 'Prints the statements of all accounts, or of a customer\'s, one after the other'
 complete -c brk -n '__brk_is_bare help' -a ask -d 'Prints a view of a desk: a CSV row for each record'
 complete -c brk -n '__brk_is_bare help' -a explain -d 'Prints how the amounts of a trade, an account, a holding or a broker come about'
 complete -c brk -n '__brk_is_bare help' -a audit -d 'Recomputes every derived table of a desk, and prints ok if all are right'
@@ -63,6 +65,12 @@ complete -c brk -n '__brk_lacks statement db' -l db -r -F -d 'FILE: The file of 
 complete -c brk -n '__brk_lacks statement account' -l account -x -d 'ID, from 1 to 1000000000000: The account'
 complete -c brk -n '__brk_lacks statement from' -l from -x -d 'DAY: The first day, as 2024-03-01'
 complete -c brk -n '__brk_lacks statement to' -l to -x -d 'DAY: The last day'
+
+complete -c brk -n '__brk_is statements' -s h -l help -d 'Prints the help'
+complete -c brk -n '__brk_lacks statements db' -l db -r -F -d 'FILE: The file of the desk'
+complete -c brk -n '__brk_lacks statements from' -l from -x -d 'DAY: The first day, as 2024-03-01'
+complete -c brk -n '__brk_lacks statements to' -l to -x -d 'DAY: The last day'
+complete -c brk -n '__brk_lacks statements customer' -l customer -x -d 'ID, from 1 to 1000000000000: The customer; without it the accounts of all customers'
 
 complete -c brk -n '__brk_is ask' -s h -l help -d 'Prints the help'
 complete -c brk -n '__brk_lacks ask db' -l db -r -F -d 'FILE: The file of the desk'

@@ -16,7 +16,7 @@ MODEL = ['brk_money', 'brk_model', 'brk_model_http', 'brk_model_explain']
 CODE = [
     'brk_ref',
     'brk_trade_rows',
-    'brk_store_lots',
+    'brk_store_index',
     'brk_tables_sql',
     'brk_tables_schema',
     'brk_tables_trading',
@@ -26,6 +26,7 @@ CODE = [
     'brk_tables_scan',
     'brk_tables_definitions',
     'brk_store_transactions',
+    'brk_store_reads',
     'brk_store',
     'brk_store_required',
     'brk_view_rows',

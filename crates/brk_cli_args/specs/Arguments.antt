@@ -6,6 +6,7 @@ use Rattle.clap.specs.Matches.{first_value, matched_of, one_text, raw_values}
 use Rattle.clap.specs.declared.parser.matches.Found.{Found}
 use Rattle.brk_money.specs.Moments.{greatest_stamp}
 use Rattle.brk_money.specs.Spelling.{Text}
+use Rattle.brk_money.specs.declared.id.TheConstants.Id
 
 -- The text of the argument `name`, empty if it is missing.
 abbrev pub text_of_argument : Found → List ℕ → Text
@@ -33,6 +34,11 @@ IsStampOf found name stamp =
 abbrev pub IsOptionalStampOf : Found → List ℕ → Option ℕ → Type 0
 IsOptionalStampOf found name (Some stamp) = IsStampOf found name stamp
 IsOptionalStampOf found name None = (stamp : ℕ) → stamp ≤ greatest_stamp → IsStampOf found name stamp → ⊥
+
+-- The id is the number of the argument `name`, or there is none.
+abbrev pub IsOptionalIdOf : Found → List ℕ → Option ℕ → Type 0
+IsOptionalIdOf found name (Some id) = IsNumberOf found name id
+IsOptionalIdOf found name None = (id : ℕ) → 1 ≤ id → id ≤ Id.GREATEST → IsNumberOf found name id → ⊥
 
 -- True if the text of the flag `name` is `true`, and false if it is `false` or missing.
 pub record IsFlagOf (found : Found) (name : List ℕ) (flag : Bool) : Type 0 where

@@ -3,7 +3,7 @@ use Rattle.std.specs.Prelude.{◌≡◌, ℕ, Bool, List, Option, codes, map, op
 use Rattle.clap.specs.Matches.{first_value}
 use Rattle.clap.specs.declared.parser.matches.Found.{Found}
 use Rattle.brk_money.specs.Spelling.{Text, day_text}
-use Rattle.brk_cli_args.specs.Arguments.{IsFlagOf, IsNumberOf, IsNumberOr, IsOptionalStampOf, text_of_argument, texts_of_argument}
+use Rattle.brk_cli_args.specs.Arguments.{IsFlagOf, IsNumberOf, IsNumberOr, IsOptionalIdOf, IsOptionalStampOf, text_of_argument, texts_of_argument}
 use Rattle.brk_cli_args.specs.declared.job.Job.{Job}
 use Rattle.brk_cli_args.specs.declared.job.Job.TheVariants as job
 
@@ -18,6 +18,14 @@ pub record RequestsStatement (found : Found) (db : Text) (account from to : ℕ)
   pub account_argument : IsNumberOf found (codes "account") account
   pub from_argument : text_of_argument found (codes "from") ≡ day_text from
   pub to_argument : text_of_argument found (codes "to") ≡ day_text to
+
+-- Statements: the path of their file, their first and their last day, and the customer, if one is
+-- named.
+pub record RequestsStatements (found : Found) (db : Text) (from to : ℕ) (customer : Option ℕ) : Type 0 where
+  pub db_argument : db ≡ text_of_argument found (codes "db")
+  pub from_argument : text_of_argument found (codes "from") ≡ day_text from
+  pub to_argument : text_of_argument found (codes "to") ≡ day_text to
+  pub customer_argument : IsOptionalIdOf found (codes "customer") customer
 
 -- A view: the path of its file, its format, its name and its arguments in order.
 pub record RequestsView (found : Found) (db : Text) (json heads : Bool) (view : Text) (arguments : List Text) : Type 0 where
@@ -45,6 +53,7 @@ pub record RequestsService (found : Found) (port : ℕ) (db : Option Text) (at :
 abbrev pub IsRequestedJob : List ℕ → Found → Job → Type 0
 IsRequestedJob name found (job.Batch db at) = RequestsBatch found (option_map string_bytes db) at
 IsRequestedJob name found (job.Statement db account from to) = (name ≡ codes "statement") × RequestsStatement found (string_bytes db) account from to
+IsRequestedJob name found (job.Statements db from to customer) = (name ≡ codes "statements") × RequestsStatements found (string_bytes db) from to customer
 IsRequestedJob name found (job.Audit db) = (name ≡ codes "audit") × (string_bytes db ≡ text_of_argument found (codes "db"))
 IsRequestedJob name found (job.Ask db json heads view arguments) =
     (name ≡ codes "ask") × RequestsView found (string_bytes db) json heads (string_bytes view) (map string_bytes arguments.items)

@@ -17,6 +17,15 @@ pub enum Job {
         from: Day,
         to: Day,
     },
+    /// Prints the statements of the accounts of the desk in the file at `db`, one after the other,
+    /// from the day `from` to the day `to`, both included: of all accounts, or of those of
+    /// `customer`.
+    Statements {
+        db: String,
+        from: Day,
+        to: Day,
+        customer: Option<Id>,
+    },
     /// Audits the desk in the file at `db`.
     Audit {
         db: String,

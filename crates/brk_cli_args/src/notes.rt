@@ -9,6 +9,10 @@ pub const BATCH: &str = "Example:
 pub const STATEMENT: &str = "Example:
   brk statement --db desk.db --account 100 --from 2024-03-01 --to 2024-03-31";
 
+/// The text after the options in the help of `brk statements`.
+pub const STATEMENTS: &str = "Example:
+  brk statements --db desk.db --from 2024-03-01 --to 2024-03-31 > statements.txt";
+
 /// The text after the options in the help of `brk audit`.
 pub const AUDIT: &str = "Example:
   brk audit --db desk.db";

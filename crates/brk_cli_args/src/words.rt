@@ -7,7 +7,7 @@
 ghost use Rattle.std.specs.Prelude.{◌≡◌, IfOk, codes, map, option_map, string_bytes};
 ghost use Rattle.clap.specs.Matches.{first_value, found_of};
 ghost use Rattle.brk_money.specs.Spelling.{day_text};
-ghost use Rattle.brk_cli_args.specs.Arguments.{IsNumberOf, IsNumberOr, IsOptionalStampOf, text_of_argument, texts_of_argument};
+ghost use Rattle.brk_cli_args.specs.Arguments.{IsNumberOf, IsNumberOr, IsOptionalIdOf, IsOptionalStampOf, text_of_argument, texts_of_argument};
 ghost use Rattle.brk_cli_args.specs.Requested.{IsRequestedJob};
 
 use crate::job::Job;
@@ -82,6 +82,24 @@ fn statement_command<'a>(alloc: Global) -> Result<Command<'a>, AllocError> {
         .arg(account_arg(alloc))?
         .arg(day_arg(alloc, "from", "The first day, as 2024-03-01"))?
         .arg(day_arg(alloc, "to", "The last day"))
+}
+
+fn customer_arg<'a>(alloc: Global) -> Arg<'a> {
+    Arg::new(alloc, "customer")
+        .long("customer")
+        .value_name("ID")
+        .value_parser(value_parser!(u64).range(1..=Id::GREATEST as i64))
+        .help("The customer; without it the accounts of all customers")
+}
+
+fn statements_command<'a>(alloc: Global) -> Result<Command<'a>, AllocError> {
+    Command::new(alloc, "statements")
+        .about("Prints the statements of all accounts, or of a customer's, one after the other")
+        .after_help(notes::STATEMENTS)
+        .arg(required_file_arg(alloc))?
+        .arg(day_arg(alloc, "from", "The first day, as 2024-03-01"))?
+        .arg(day_arg(alloc, "to", "The last day"))?
+        .arg(customer_arg(alloc))
 }
 
 fn audit_command<'a>(alloc: Global) -> Result<Command<'a>, AllocError> {
@@ -189,10 +207,11 @@ fn program_command<'a>(alloc: Global) -> Result<Command<'a>, AllocError> {
         .bin_name("brk")
 }
 
-// `brk` with its six subcommands.
+// `brk` with its seven subcommands.
 fn whole_command<'a>(alloc: Global) -> Result<Command<'a>, AllocError> {
     let command = add_subcommand(program_command(alloc), batch_command(alloc));
     let command = add_subcommand(command, statement_command(alloc));
+    let command = add_subcommand(command, statements_command(alloc));
     let command = add_subcommand(command, ask_command(alloc));
     let command = add_subcommand(command, explain_command(alloc));
     let command = add_subcommand(command, audit_command(alloc));
@@ -247,6 +266,26 @@ fn statement_job(alloc: Global, matches: &ArgMatches<'_>) -> Result<Job, UsageFa
         account: account_id(alloc, matches)?,
         from: parse_day_arg(matches, "from")?,
         to: parse_day_arg(matches, "to")?,
+    })
+}
+
+// The parser refuses any other text of a customer.
+fn customer_id(matches: &ArgMatches<'_>) -> Option<Id>
+    ensures { IsOptionalIdOf (found_of matches.now) (codes "customer") result }
+{
+    Id::new(matches.get_one("customer")?)
+}
+
+fn statements_job(alloc: Global, matches: &ArgMatches<'_>) -> Result<Job, UsageFault>
+    ensures { IfOk result (IsRequestedJob (codes "statements") (found_of matches.now)) }
+{
+    let first = parse_day_arg(matches, "from")?;
+    let last = parse_day_arg(matches, "to")?;
+    Ok(Job::Statements {
+        db: argument_text(alloc, matches, "db")?,
+        from: first,
+        to: last,
+        customer: customer_id(matches),
     })
 }
 
@@ -311,12 +350,15 @@ fn explain_job(alloc: Global, matches: &ArgMatches<'_>) -> Result<Job, UsageFaul
     })
 }
 
-// Any name but those of the other five subcommands is a batch; the parser accepts no other name.
+// Any name but those of the other six subcommands is a batch; the parser accepts no other name.
 fn subcommand_job(alloc: Global, name: &str, matches: &ArgMatches<'_>) -> Result<Job, UsageFault>
     ensures { IfOk result (IsRequestedJob name.now (found_of matches.now)) }
 {
     if name == "statement" {
         return statement_job(alloc, matches);
+    }
+    if name == "statements" {
+        return statements_job(alloc, matches);
     }
     if name == "serve" {
         return serve_job(alloc, matches);

@@ -147,6 +147,7 @@ module _ {S R : Type 0} (g : Ghosts S) (creates opens : OpenRelation S) (closes 
   prints (job.Batch None None) input io end known ran = tt
   prints (job.Batch (Some path) at) input io end known ran = tt
   prints (job.Statement db account from to) input io end known ran = tt
+  prints (job.Statements db from to customer) input io end known ran = tt
   prints (job.Audit db) input io end known ran = tt
   prints (job.Ask db json heads view arguments) input io end known ran = tt
   prints (job.Explain db words) input io end known ran = tt
@@ -168,6 +169,7 @@ module _ {S R : Type 0} (g : Ghosts S) (creates opens : OpenRelation S) (closes 
   done_in_file (job.Batch (Some path) None) input io end known ran = tt
   done_in_file (job.Batch None at) input io end known ran = tt
   done_in_file (job.Statement db account from to) input io end known ran = tt
+  done_in_file (job.Statements db from to customer) input io end known ran = tt
   done_in_file (job.Audit db) input io end known ran = tt
   done_in_file (job.Ask db json heads view arguments) input io end known ran = tt
   done_in_file (job.Explain db words) input io end known ran = tt

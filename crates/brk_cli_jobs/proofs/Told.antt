@@ -25,18 +25,20 @@ use Rattle.brk_model.specs.Forms.{ReadResult}
 use Rattle.brk_model.specs.Queries as model
 use Rattle.brk_model.specs.Sheets.{sheets}
 use Rattle.brk_model.specs.Statement.{statement, text_of_lines}
+use Rattle.brk_model.specs.Statements.{statements}
 use Rattle.brk_model_explain.specs.Explain.{ExplainRequest, explanation, read_explain_request}
 use Rattle.brk_money.specs.Spelling.{Text}
 use Rattle.brk_money.specs.declared.fault.Fault.{Fault}
 use Rattle.brk_money.specs.declared.refusal.Refusal.{Refusal}
 use Rattle.brk_report.specs.StatementOutput.{StatementPost}
+use Rattle.brk_report.specs.StatementsOutput.{StatementsPost}
 use Rattle.brk_store_transactions.specs.Audited.{Represents}
 use Rattle.brk_view_rows.specs.declared.view.View.{View}
 use Rattle.brk_cli_jobs.proofs.Printed.{both_done}
 use Rattle.brk_cli_jobs.specs.Endings.{ending_of_report, ending_of_statement}
 use Rattle.brk_cli_jobs.specs.Files.{CloseRelation, OpenRelation}
 use Rattle.brk_cli_jobs.specs.JobText.{ModelRefuses, PrintsJobAt, PrintsJobOfFile, WritesExactly, text_of_explanation, text_of_job, text_of_view, text_or_refusal}
-use Rattle.brk_cli_jobs.specs.Jobs.{ExecutesJob, InputAndOutput, WritesExplanation, WritesStatementOfAccount, WritesView}
+use Rattle.brk_cli_jobs.specs.Jobs.{ExecutesJob, InputAndOutput, WritesExplanation, WritesStatementOfAccount, WritesStatementsOfAccounts, WritesView}
 use Rattle.brk_cli_jobs.specs.Places.{ExecutesJobAndCloses, ExecutesJobInExistingFile, ExecutesJobOnOpened, ExecutesJobOnStore, OpensUnlessRefused, PrintsOkAfterAudit, RunsJob, place_of_job}
 use Rattle.brk_cli_jobs.specs.Words.{result_of_words, without_value}
 
@@ -63,6 +65,9 @@ record PrintsOnStore {S : Type 0} (g : Ghosts S) (words : Result (Unit {0}) Refu
 
 abbrev statement_text : ℕ → ℕ → ℕ → Base → Option (Result Text Refusal)
 statement_text account from to base = Some (statement (sheets base) account from to)
+
+abbrev statements_text : Option ℕ → ℕ → ℕ → Base → Option (Result Text Refusal)
+statements_text customer from to base = Some (statements (sheets base) customer from to)
 
 abbrev view_text : Form → ReadResult model.Query → Base → Option (Result Text Refusal)
 view_text form read base = Some (text_of_view form base read)
@@ -131,6 +136,24 @@ module _ {S : Type 0} (g : Ghosts S) (old new : Held S) (io : InputAndOutput) (e
           (inr (λ clean base keeps. ap (λ (r : Result Text Refusal). Some r) (post.written clean (sheets base) keeps.rows)))
       by_result (Err (report.Desk fault)) ended post = failed_on_desk words (statement_text account from to) fault ended
       by_result (Err report.Write) ended post = failed_to_write words (statement_text account from to) false ended
+
+  -- ---- the statements of several accounts
+
+  statements_printed : (words : Result (Unit {0}) Refusal) (customer : Option ℕ) (from to : ℕ) → WritesStatementsOfAccounts g customer from to old new io end
+      → PrintsOnStore g words (statements_text customer from to) old new io end
+  statements_printed words customer from to ran = by_result ran.0 ran.1 ran.2
+    where
+      by_result : (result : Result (Unit {0}) ReportFault) → end ≡ ending_of_statement result → StatementsPost g old new customer from to io.before io.after result
+          → PrintsOnStore g words (statements_text customer from to) old new io end
+      by_result (Ok u) ended post = wrote words (statements_text customer from to) ended (λ clean base keeps.
+          let it = post.written clean (sheets base) keeps.rows in (
+            subst (λ (r : Result Text Refusal). WritesExactly (Some r) io) (sym it.1) it.2,
+            record { rows = post.desk_unchanged.same_rows (sheets base) keeps.rows; consistent = keeps.consistent },
+          ))
+      by_result (Err (report.Refused refusal)) ended post = refused_so words (statements_text customer from to) refusal ended (post.unwritten refusal refl)
+          (inr (λ clean base keeps. ap (λ (r : Result Text Refusal). Some r) (post.written clean (sheets base) keeps.rows)))
+      by_result (Err (report.Desk fault)) ended post = failed_on_desk words (statements_text customer from to) fault ended
+      by_result (Err report.Write) ended post = failed_to_write words (statements_text customer from to) false ended
 
   -- ---- a view
 
@@ -330,6 +353,11 @@ module _ {S R : Type 0} (g : Ghosts S) (creates opens : OpenRelation S) (closes 
       let j = job.Statement db account from to in
       in_existing_file g opens closes machine (string_bytes db) io j (λ store e ran. ran)
       (λ old new e did. statement_printed g old new io e (result_of_words j) account from to did) end
+      (same_run j (string_bytes db) io end ran.reached ran.mid ran.printed ran.executed)
+  told (job.Statements db from to customer) io end ran =
+      let j = job.Statements db from to customer in
+      in_existing_file g opens closes machine (string_bytes db) io j (λ store e ran. ran)
+      (λ old new e did. statements_printed g old new io e (result_of_words j) customer from to did) end
       (same_run j (string_bytes db) io end ran.reached ran.mid ran.printed ran.executed)
   told (job.Ask db json heads view arguments) io end ran =
       let j = job.Ask db json heads view arguments in

@@ -14,7 +14,8 @@ abbrev pub ending_of_batch : Result Counts BatchFault → Ending
 ending_of_batch (Ok counts) = ending.Done
 ending_of_batch (Err fault) = ending.Batch fault
 
--- The ending of a job that wrote a statement: `Done`, or `Statement` with the refusal or the fault.
+-- The ending of a job that wrote a statement or several: `Done`, or `Statement` with the refusal or
+-- the fault.
 abbrev pub ending_of_statement : Result (Unit {0}) ReportFault → Ending
 ending_of_statement (Ok u) = ending.Done
 ending_of_statement (Err fault) = ending.Statement fault

@@ -17,6 +17,7 @@ use Rattle.brk_model.specs.Forms.{ReadResult}
 use Rattle.brk_model.specs.Queries.{Query}
 use Rattle.brk_model.specs.Sheets.{sheets}
 use Rattle.brk_model.specs.Statement.{statement, text_of_lines}
+use Rattle.brk_model.specs.Statements.{statements}
 use Rattle.brk_model.specs.Tables.{Tables}
 use Rattle.brk_model_explain.specs.Explain.{ExplainRequest, explanation, read_explain_request}
 use Rattle.brk_money.specs.Spelling.{Text}
@@ -46,9 +47,11 @@ text_of_explanation t (Ok request) = text_or_refusal text_of_lines (explanation 
 text_of_explanation t (Err refusal) = Err refusal
 
 -- The text that the model determines for a job over a desk with the base `base`, or its refusal: a
--- statement, a view, an explanation, or `ok` of an audit. `None` for a batch and for serving.
+-- statement or several, a view, an explanation, or `ok` of an audit. `None` for a batch and for
+-- serving.
 abbrev pub text_of_job : Base → Job → Option (Result Text Refusal)
 text_of_job base (job.Statement db account from to) = Some (statement (sheets base) account from to)
+text_of_job base (job.Statements db from to customer) = Some (statements (sheets base) customer from to)
 text_of_job base (job.Ask db json heads view arguments) =
     Some (text_of_view (record { json = json; heads = heads }) base (parse_query (string_bytes view) (map string_bytes arguments.items)))
 text_of_job base (job.Explain db words) = Some (text_of_explanation (sheets base) (read_explain_request (map string_bytes words.items)))

@@ -43,6 +43,7 @@ use Rattle.brk_money.specs.declared.fault.Fault.TheVariants.{Memory}
 use Rattle.brk_ask.specs.Asked.{PrintViewPost, FailsWritingNothing}
 use Rattle.brk_explain.specs.LinesOutput.{WriteLinesPost}
 use Rattle.brk_report.specs.StatementOutput.{StatementPost}
+use Rattle.brk_report.specs.StatementsOutput.{StatementsPost}
 use Rattle.brk_ask.specs.declared.form.Form.{Form}
 use Rattle.brk_store_transactions.specs.Audited.{Represents}
 use Rattle.brk_cli_jobs.specs.Endings.{ending_of_batch, ending_of_report, ending_of_serving, ending_of_statement, result_of_serving}
@@ -76,6 +77,12 @@ pub record ExecutesBatch {S R : Type 0} (g : Ghosts S) (machine : Bor R) (at : O
 abbrev pub WritesStatementOfAccount : {S : Type 0} → Ghosts S → ℕ → ℕ → ℕ → Held S → Held S → InputAndOutput → Ending → Type 0
 WritesStatementOfAccount g account from to old new io end =
     (result : Result (Unit {0}) ReportFault) × (end ≡ ending_of_statement result) × StatementPost g old new account from to io.before io.after result
+
+-- The job wrote the statements of the accounts of `customer`, or of all accounts, of the days `from`
+-- to `to`, or failed (`StatementsPost`).
+abbrev pub WritesStatementsOfAccounts : {S : Type 0} → Ghosts S → Option ℕ → ℕ → ℕ → Held S → Held S → InputAndOutput → Ending → Type 0
+WritesStatementsOfAccounts g customer from to old new io end =
+    (result : Result (Unit {0}) ReportFault) × (end ≡ ending_of_statement result) × StatementsPost g old new customer from to io.before io.after result
 
 -- Memory ran out before the desk was read: the desk is unchanged, and nothing was written.
 abbrev pub FailsBeforeReading : {S : Type 0} → Held S → Held S → InputAndOutput → Ending → Type 0
@@ -134,6 +141,7 @@ WritesAuditOk before after end =
 abbrev pub ExecutesJob : {S R : Type 0} → Ghosts S → Bor R → Job → Held S → Held S → InputAndOutput → Ending → Type 0
 ExecutesJob g machine (job.Batch db at) old new io end = ExecutesBatch g machine at old new io end
 ExecutesJob g machine (job.Statement db account from to) old new io end = WritesStatementOfAccount g account from to old new io end
+ExecutesJob g machine (job.Statements db from to customer) old new io end = WritesStatementsOfAccounts g customer from to old new io end
 ExecutesJob g machine (job.Audit db) old new io end = (end ≡ ending.Done) × (new ≡ old) × (io.after ≡ io.before)
 ExecutesJob g machine (job.Ask db json heads view arguments) old new io end =
     WritesView g (record { json = json; heads = heads }) (parse_query (string_bytes view) (map string_bytes arguments.items)) old new io end

@@ -104,6 +104,7 @@ abbrev pub place_of_job : Job → DeskPlace
 place_of_job (job.Batch db at) = place_of_optional_path db
 place_of_job (job.Serve port db at streams) = place_of_optional_path db
 place_of_job (job.Statement db account from to) = InFile (string_bytes db)
+place_of_job (job.Statements db from to customer) = InFile (string_bytes db)
 place_of_job (job.Audit db) = InFile (string_bytes db)
 place_of_job (job.Ask db json heads view arguments) = InFile (string_bytes db)
 place_of_job (job.Explain db words) = InFile (string_bytes db)

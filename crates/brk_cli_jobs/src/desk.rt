@@ -5,7 +5,7 @@ ghost use Rattle.brk_cli_jobs.specs.Places.{ExecutesJobAndCloses, ExecutesJobInM
 
 use crate::desk_files::DeskFiles;
 use crate::pipe::PipeWriter;
-use crate::{ask, batch, explain, serve, statement};
+use crate::{ask, batch, explain, serve, statement, statements};
 use brk_ask::Form;
 use brk_cli_args::Job;
 use brk_cli_exit::{Ending, ending_after_close};
@@ -34,6 +34,12 @@ fn execute_job_at_desk<R: Read + Drop, W: Write, S: Alter>(
             from,
             to,
         } => statement::execute_statement_job(rt.alloc(), desk, *account, *from, *to, output),
+        Job::Statements {
+            db: _,
+            from,
+            to,
+            customer,
+        } => statements::execute_statements_job(rt.alloc(), desk, *customer, *from, *to, output),
         Job::Ask {
             db: _,
             json,

@@ -57,6 +57,7 @@ fn job_place(job: &Job) -> Place<'_>
         Job::Batch { db, .. } => place_of_path(db),
         Job::Serve { db, .. } => place_of_path(db),
         Job::Statement { db, .. } => Place::ExistingFile(db.as_str()),
+        Job::Statements { db, .. } => Place::ExistingFile(db.as_str()),
         Job::Ask { db, .. } => Place::ExistingFile(db.as_str()),
         Job::Explain { db, .. } => Place::ExistingFile(db.as_str()),
         Job::Audit { db } => Place::ExistingFile(db.as_str()),

@@ -15,6 +15,7 @@ pub mod pipe;
 mod reopening;
 mod serve;
 mod statement;
+mod statements;
 mod words;
 
 pub use desk_files::{DeskFiles, MachineFiles, PlaceFiles};

@@ -25,6 +25,6 @@ pub(crate) fn check_words(alloc: Global, job: &Job) -> Planned<(), AllocError>
         } => check_query(alloc, view.as_str(), arguments),
         Job::Explain { db: _, words } => check_request(alloc, words),
         Job::Batch { .. } | Job::Serve { .. } => Ok(Ok(())),
-        Job::Statement { .. } | Job::Audit { .. } => Ok(Ok(())),
+        Job::Statement { .. } | Job::Statements { .. } | Job::Audit { .. } => Ok(Ok(())),
     }
 }

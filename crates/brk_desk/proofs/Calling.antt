@@ -35,7 +35,7 @@ use Rattle.brk_audit_theorems.specs.Sound.{AuditInvariant}
 use Rattle.brk_audit_theorems.proofs.SoundSteps.{keyed_sound}
 use Rattle.brk_store_transactions.specs.Holds.{IsDiskContentOfRows, HoldsRows, ApplyPost, ReadPost}
 use Rattle.brk_store_transactions.proofs.States.{clean_before}
-use Rattle.brk_store.proofs.Sequences.{none_then, same_then}
+use Rattle.brk_store_reads.proofs.Sequences.{none_then, same_then}
 use Rattle.brk_desk.specs.CommandAnswers.{CommandAnswer, IsDoneResult, model_answer}
 use Rattle.brk_desk.specs.Booked.{CommandPost, IsDiskContentAfterCommand, base_after_keyed_command}
 use Rattle.brk_store_transactions.specs.Audited.{Represents}

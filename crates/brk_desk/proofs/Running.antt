@@ -8,7 +8,7 @@ use Rattle.brk_model.specs.Keyed.{keyed_step}
 use Rattle.brk_model.specs.Sheets.{sheets}
 use Rattle.brk_audit_theorems.specs.Runs.{CallMeetsAuditFormats}
 use Rattle.brk_store_transactions.specs.Holds.{IsDiskContentOfRows, WasOpenAndIsUnchanged, CrashStatesSatisfy}
-use Rattle.brk_store.proofs.Sequences.{same_then}
+use Rattle.brk_store_reads.proofs.Sequences.{same_then}
 use Rattle.brk_desk.specs.CrashBases.{AcknowledgesNothing, CrashMayExposeBase}
 use Rattle.brk_desk.proofs.Seen.{still}
 use Rattle.brk_desk.proofs.Stopping.{may_be_there, quiet_leaves, stands_still}

@@ -12,7 +12,7 @@ use Rattle.brk_ref.specs.Records.{abstract_kept_row}
 use Rattle.brk_ref.specs.declared.key.Kept as row
 use Rattle.brk_store_transactions.specs.Holds.{HoldsRows, ReadPost, WasOpenAndIsUnchanged}
 use Rattle.brk_store_transactions.proofs.States.{clean_before}
-use Rattle.brk_store.proofs.Sequences.{none_then, same_then}
+use Rattle.brk_store_reads.proofs.Sequences.{none_then, same_then}
 use Rattle.brk_store_transactions.specs.Audited.{Represents}
 use Rattle.brk_desk.specs.Keys.{ReadStoredReplyPost, kept_row_under_key}
 

@@ -2,7 +2,7 @@ use crate::asking::answer_query;
 use crate::booking::{Answer, book_command};
 use crate::call::{Call, Outcome};
 use brk_desk_commands::Command;
-use brk_desk_queries::{Head, account_head};
+use brk_desk_queries::{Head, account_head, statement_accounts};
 use brk_explain_reads::{
     gather_account, gather_broker, gather_holding, gather_trade, visit_broker_trades,
 };
@@ -78,7 +78,7 @@ impl<S: Alter> Desk<S> {
     ghost use Rattle.brk_view_rows.specs.Queries.{abstract_query};
     ghost use Rattle.std.specs.Fn.{CalledAt};
     ghost use Rattle.brk_ref.specs.Rows.{abstract_holding_row, abstract_cash_row, abstract_trade_row};
-    ghost use Rattle.brk_desk_queries.specs.Heads.{IsStatementHeadOfAccount};
+    ghost use Rattle.brk_desk_queries.specs.Heads.{AreAccountsOfStatements, IsStatementHeadOfAccount};
     ghost use Rattle.brk_model_explain.specs.BrokerLines.{completed_trades_of_broker};
     ghost use Rattle.brk_explain_rows.specs.Details.{AreDetailsOfAccount, AreDetailsOfBroker, AreDetailsOfHolding, AreDetailsOfTrade};
     ghost use Rattle.brk_model.specs.Run.{IsCallFault};
@@ -194,6 +194,18 @@ impl<S: Alter> Desk<S> {
         ensures fault { IfErr result IsCallFault }
     {
         Ok(account_head(alloc, &mut self.store, account)?)
+    }
+
+    /// Returns the ids of all accounts, or of those of a customer, ascending. Refuses an unknown
+    /// customer with `NoCustomer`.
+    pub fn statement_accounts(
+        &mut self,
+        alloc: Global,
+        customer: Option<Id>,
+    ) -> Planned<Vec<Id>, CallFault>
+        ensures { ReadPost S.Store self.old self.new result (AreAccountsOfStatements customer) }
+    {
+        statement_accounts(alloc, &mut self.store, customer)
     }
 
     /// Returns the facts that `brk explain` prints of a trade, or `None` if the trade does not

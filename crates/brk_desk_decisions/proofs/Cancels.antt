@@ -21,7 +21,7 @@ use Rattle.brk_trade_theorems.specs.TradePlans.{PlanCancelPrecondition}
 use Rattle.brk_trade_theorems.proofs.CancelPlanning.{cancel_plan_does, cancel_refused}
 use Rattle.brk_store_transactions.specs.Holds.{ReadPost}
 use Rattle.brk_trade_theorems.specs.Decisions.{DecidesCommand}
-use Rattle.brk_store.proofs.Sequences.{read_with}
+use Rattle.brk_store_reads.proofs.Sequences.{read_with}
 
 -- `last` is the last stamp of the tables, and `found` is the status of the trade with the id `id`,
 -- or `None` if the trade does not exist.

@@ -2,9 +2,6 @@
 use Rattle.std.proofs.Common.{◌≡◌, ◌≤◌, ◌∙◌, ℕ, Bool, true, false, not, List, Option, Result, Ok, Err, IfOk, ap, filter, map, refl, subst, sym}
 use Rattle.std.specs.Prelude.{IfSome, MatchResult, ◌∷◌, ◌++◌, [], None, Some, option_map}
 use Rattle.std.specs.List.{Contains, list_any}
-use Rattle.std.specs.List.Sorted.{IsNonDecreasingBy, IsPermutation}
-use Rattle.std.proofs.lemmas.List.Sorted.{IsPermutation-map, IsPermutation-trans}
-use Rattle.std.proofs.lemmas.List.{map-append}
 use Rattle.brk_money.specs.Moments.{greatest_stamp}
 use Rattle.brk_money.specs.declared.fault.Fault.{Fault}
 use Rattle.brk_money.specs.declared.refusal.Refusal.{Refusal}
@@ -17,7 +14,7 @@ use Rattle.brk_ref_orders.specs.Records.{abstract_ticks}
 use Rattle.brk_ref_orders.specs.declared.tick.Tick.{Tick}
 use Rattle.brk_ref.specs.Records.{abstract_last_trade_row}
 use Rattle.brk_ref.specs.declared.last_trade.LastTrade.{LastTrade}
-use Rattle.brk_trade_plans.specs.Feed.{SymbolState, IsFeedPlan, feed_checks, states_of_quotes, state_of_quote, is_state_of_symbol, has_no_state_of_symbol, price_span_of_first_symbol}
+use Rattle.brk_trade_plans.specs.Feed.{SymbolState, IsFeedPlan, feed_checks, states_of_quotes, state_of_quote, is_state_of_symbol, has_no_state_of_symbol, is_request_triggered_in_span, price_span_of_first_symbol}
 use Rattle.brk_trade_plans.specs.Reference.{later_stamp_check}
 use Rattle.brk_ref.specs.Rows.{abstract_request_row}
 use Rattle.brk_ref.specs.declared.request_row.RequestRow as request
@@ -29,7 +26,8 @@ use Rattle.brk_trade_theorems.specs.TradePlans.{AreQuotesOfTicks, IsQuoteOfTick,
 use Rattle.brk_trade_books.specs.TradeReads.{last_trade_row_of_symbol, requests_of_symbol}
 use Rattle.brk_trade_theorems.proofs.FeedPlanning.{feed_plan_does, feed_refused}
 use Rattle.brk_trade_theorems.proofs.Quotes.{quoted_before, not_listed, quote_read, read_quote}
-use Rattle.brk_trade_theorems.proofs.Waiting.{limit_buys, limit_sells, may, selected, stop_losses}
+use Rattle.brk_trade_theorems.proofs.Waiting.{may}
+use Rattle.brk_trade_books.proofs.LotReading.{filter-map}
 use Rattle.brk_trade_books.proofs.Tested.{not_not}
 use Rattle.brk_trade_theorems.specs.Decisions.{DecidesCommand}
 
@@ -44,27 +42,20 @@ IsQuoteOfTickOrNone all tick quote t = (option_map (λ q. abstract_last_trade_ro
 abbrev pub QuotesAndLastStampMatch : (all ticks : List Tick) → List SymbolState → Option ℕ → Tables → Type 0
 QuotesAndLastStampMatch all ticks quotes last t = (last ≡ t.last) × AreQuotesOfTicks t all ticks quotes
 
--- what the selections of a tick's symbol brought, merged, is its quote
-pub selected_quote : (t : Tables) (tick : Tick) (ticks : List Tick) (span : PriceSpan) (last : LastTrade) (losses sells buys : List request.RequestRow)
+-- the last trade of a tick's symbol and its requests that the ticks may trigger are its quote
+pub selected_quote : (t : Tables) (tick : Tick) (ticks : List Tick) (span : PriceSpan) (last : LastTrade) (found : List request.RequestRow)
     (quote : Quote) → span ≡ price_span_of_first_symbol tick ticks
     → Some (abstract_last_trade_row last) ≡ last_trade_row_of_symbol t tick.symbol
-    → map abstract_request_row losses ≡ stop_losses t tick.symbol span
-    → map abstract_request_row sells ≡ limit_sells t tick.symbol span
-    → map abstract_request_row buys ≡ limit_buys t tick.symbol span
-    → quote.last ≡ last → IsPermutation ((losses ++ sells) ++ buys) quote.requests.items → IsNonDecreasingBy (λ (r : request.RequestRow). r.trade) quote.requests.items
+    → map abstract_request_row found ≡ requests_of_symbol t tick.symbol
+    → quote.last ≡ last → quote.requests.items ≡ filter (λ r. is_request_triggered_in_span span r.kind r.bid) found
     → IsQuoteOfTickOrNone ticks tick (Some quote) t
-selected_quote t tick ticks span last losses sells buys quote is l e f g same p o =
+selected_quote t tick ticks span last found quote is l e same kept =
     let listed : Some (abstract_last_trade_row quote.last) ≡ last_trade_row_of_symbol t tick.symbol = ap (λ x. Some (abstract_last_trade_row x)) same ∙ l in
-    let joined : map abstract_request_row ((losses ++ sells) ++ buys) ≡ (stop_losses t tick.symbol span ++ limit_sells t tick.symbol span) ++ limit_buys t tick.symbol span =
-    map-append abstract_request_row (losses ++ sells) buys ∙ ap (λ xs. xs ++ map abstract_request_row buys) (map-append abstract_request_row losses sells) ∙ (λ i. (e i ++ f i) ++ g i) in
-    let moved : IsPermutation ((stop_losses t tick.symbol span ++ limit_sells t tick.symbol span) ++ limit_buys t tick.symbol span) (map abstract_request_row quote.requests.items) =
-    subst (λ xs. IsPermutation xs (map abstract_request_row quote.requests.items)) joined (IsPermutation-map abstract_request_row ((losses ++ sells) ++ buys) quote.requests.items p) in
-    let all : IsPermutation (filter (may span) (requests_of_symbol t tick.symbol)) (map abstract_request_row quote.requests.items) =
-    IsPermutation-trans (filter (may span) (requests_of_symbol t tick.symbol)) ((stop_losses t tick.symbol span ++ limit_sells t tick.symbol span) ++ limit_buys t tick.symbol span)
-    (map abstract_request_row quote.requests.items) (selected t tick.symbol span) moved in (
+    let rows : map abstract_request_row quote.requests.items ≡ filter (may span) (requests_of_symbol t tick.symbol) =
+    ap (map abstract_request_row) kept ∙ sym (filter-map (may span) abstract_request_row found) ∙ ap (filter (may span)) e in (
       listed,
       read_quote t ticks tick (state_of_quote quote) (sym listed)
-          (subst (λ s. IsPermutation (filter (may s) (requests_of_symbol t tick.symbol)) (map abstract_request_row quote.requests.items)) is all) o,
+          (subst (λ s. map abstract_request_row quote.requests.items ≡ filter (may s) (requests_of_symbol t tick.symbol)) is rows),
     )
 
 -- with each tick they are known of one tick more

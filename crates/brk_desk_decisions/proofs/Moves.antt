@@ -23,7 +23,7 @@ use Rattle.brk_trade_theorems.specs.MovePlans.{MovementFactsMatchTables, PlanMov
 use Rattle.brk_trade_theorems.proofs.MovePlanning.{move_plan_does, move_refused}
 use Rattle.brk_store_transactions.specs.Holds.{ReadPost}
 use Rattle.brk_trade_theorems.specs.Decisions.{DecidesCommand}
-use Rattle.brk_store.proofs.Sequences.{read_with}
+use Rattle.brk_store_reads.proofs.Sequences.{read_with}
 
 -- `balance` is the balance of the account with the id `account`, or `None` if the account does not
 -- exist.

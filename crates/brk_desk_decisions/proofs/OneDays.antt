@@ -18,7 +18,7 @@ use Rattle.brk_trade_theorems.specs.MovePlans.{PlanOneDaySettlementPrecondition}
 use Rattle.brk_trade_theorems.proofs.MovePlanning.{one_day_plan_does, one_day_refused}
 use Rattle.brk_store_transactions.specs.Holds.{ReadPost}
 use Rattle.brk_trade_theorems.specs.Decisions.{DecidesCommand}
-use Rattle.brk_store.proofs.Sequences.{read_with}
+use Rattle.brk_store_reads.proofs.Sequences.{read_with}
 
 -- `last` is the last stamp of the tables, and `rule` is the first day of one-day settlement, or `None` if none is
 -- set.

@@ -25,7 +25,7 @@ use Rattle.brk_trade_theorems.proofs.OrderDoing.{estimate_answered, estimate_ref
 use Rattle.brk_store_transactions.specs.Holds.{ReadPost}
 use Rattle.brk_desk_decisions.specs.Estimates.{IsEstimateOfModel}
 use Rattle.brk_trade_theorems.specs.Decisions.{DecidesCommand}
-use Rattle.brk_store.proofs.Sequences.{read_with}
+use Rattle.brk_store_reads.proofs.Sequences.{read_with}
 
 -- ---- what is known after the reads
 

@@ -21,7 +21,7 @@ use Rattle.brk_trade_theorems.specs.Plans.{PlanReferencePrecondition as IsLooked
 use Rattle.brk_trade_theorems.specs.Found.{ReferenceFactsMatchTables}
 use Rattle.brk_trade_theorems.proofs.Planning.{plan_does, refusal_does}
 use Rattle.brk_store_transactions.specs.Holds.{ReadPost}
-use Rattle.brk_store.proofs.Sequences.{read_with}
+use Rattle.brk_store_reads.proofs.Sequences.{read_with}
 
 -- `last` is the last stamp of the tables, and the facts for the reference record equal those of the
 -- tables.

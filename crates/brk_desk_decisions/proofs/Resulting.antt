@@ -24,7 +24,7 @@ use Rattle.brk_trade_theorems.proofs.ResultRefusing.{result_refused}
 use Rattle.brk_store_transactions.specs.Holds.{ReadPost}
 use Rattle.brk_trade_theorems.specs.Decisions.{DecidesCommand}
 use Rattle.brk_desk_decisions.specs.ResultFactReads.{AreResultFactsOfTradeWithId, AreLotsOfTradedPosition}
-use Rattle.brk_store.proofs.Sequences.{read_with}
+use Rattle.brk_store_reads.proofs.Sequences.{read_with}
 
 -- what is planned over lots is planned over those of them that are known to be given
 planned_over : (found : Option ResultPlanFacts) (price : ℕ) (given known : List Lot → Type 0) (last : Option ℕ) (now : ℕ) → ((ls : List Lot) → known ls → given ls) → (result : Result Plan Refusal)

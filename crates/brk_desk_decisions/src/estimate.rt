@@ -7,7 +7,7 @@ ghost use Rattle.brk_lots.specs.Against.{is_trade_closing_lots};
 ghost use Rattle.brk_model.specs.Tests.{first_refusal};
 ghost use Rattle.brk_ref_orders.specs.Records.{abstract_order};
 ghost use Rattle.brk_store_transactions.specs.Holds.{ReadPost};
-ghost use Rattle.brk_store.specs.ReadSequences.{IsUnchangedByReads};
+ghost use Rattle.brk_store_reads.specs.ReadSequences.{IsUnchangedByReads};
 ghost use Rattle.brk_store.specs.RemainingLots.{borrowed_store, number_of_rows_read};
 ghost use Rattle.brk_trade_plans.specs.declared.estimate.Estimate as spec;
 ghost use Rattle.brk_trade_plans.specs.declared.reply.Reply.TheVariants.{Estimated};
@@ -52,9 +52,9 @@ fn plan_estimate_over_lots<S: Alter>(
         (λ refusal. first_refusal (order_checks found.now) ≡ Some refusal)) }
     ensures refused { IfOk result (λ planned. OnErr planned (lots.new ≡ lots.old)) }
 
-    // The number of lots read, also if the call fails. Lots are read 16 at a time: hence the 15.
+    // The number of lots read, also if the call fails. Lots are read 4 at a time: hence the 3.
     ensures few_rows_read { OrderReadsAtMostOneLotMore (terms_of_order order.now found.now)
-        (AreLotsBeforeReads S.Store lots.old lots.new) (number_of_rows_read lots.old + 15) (number_of_rows_read lots.new) }
+        (AreLotsBeforeReads S.Store lots.old lots.new) (number_of_rows_read lots.old + 3) (number_of_rows_read lots.new) }
     ensures no_lot_read { is_trade_closing_lots (terms_of_order order.now found.now).side (terms_of_order order.now found.now).held ≡ false
         → lots.new ≡ lots.old }
 {

@@ -10,12 +10,10 @@ ghost use Rattle.brk_ref.specs.Records.{abstract_last_trade_row};
 ghost use Rattle.brk_store_transactions.specs.Holds.{ReadPost};
 ghost use Rattle.brk_trade_plans.specs.Feed.{states_of_quotes, state_of_quote};
 
-use brk_money::{CallFault, Planned, Stamp, TradeType};
+use brk_money::{CallFault, Planned, Stamp};
 use brk_ref_orders::{Feed, Tick};
 use brk_store::Store;
-use brk_trade::{
-    Plan, Quote, create_quote, first_symbol_price_span, has_no_quote_of_symbol, plan_feed,
-};
+use brk_trade::{Plan, Quote, first_symbol_price_span, has_no_quote_of_symbol, plan_feed};
 use sqlite::Alter;
 use std::alloc::Global;
 
@@ -35,11 +33,9 @@ fn read_tick_quote<S: Alter>(
         return Ok(None);
     };
     let span = first_symbol_price_span(tick, ticks);
-    let losses = store.requests_at_least(alloc, &tick.symbol, TradeType::StopLoss, span.lowest)?;
-    let sells = store.requests_at_most(alloc, &tick.symbol, TradeType::LimitSell, span.highest)?;
-    let buys = store.requests_at_least(alloc, &tick.symbol, TradeType::LimitBuy, span.lowest)?;
-    let quote = create_quote(last, losses, sells, buys)?;
-    Ok(Some(quote))
+    let mut requests = store.requests_of_symbol(alloc, &tick.symbol)?;
+    requests.retain(|request| span.can_trigger(request.kind, request.bid));
+    Ok(Some(Quote { last, requests }))
 }
 
 // Returns the stamp of the last accepted command, and one quote for each symbol of `ticks` that has

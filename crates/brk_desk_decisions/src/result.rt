@@ -10,7 +10,7 @@ ghost use Rattle.brk_model.specs.Commands.{CompleteTrade};
 ghost use Rattle.brk_model.specs.Tables.{Tables};
 ghost use Rattle.brk_money.specs.Moments as moments;
 ghost use Rattle.brk_store_transactions.specs.Holds.{HoldsRows, ReadPost};
-ghost use Rattle.brk_store.specs.ReadSequences.{IsUnchangedByReads};
+ghost use Rattle.brk_store_reads.specs.ReadSequences.{IsUnchangedByReads};
 ghost use Rattle.brk_store.specs.RemainingLots.{borrowed_store, number_of_rows_read};
 ghost use Rattle.brk_trade.specs.Results.{ResultReadsAtMostOneLotMore, CompletesExistingTrade, IsResultRefusal, ClosesNoHeldShares, stamp_or_clock_reading};
 
@@ -45,9 +45,9 @@ fn plan_result_over_lots<S: Alter>(
         (CompletesExistingTrade (Some found.now) price (AreLotsBeforeReads S.Store lots.old lots.new) last now)
         (IsResultRefusal (Some found.now) price (AreLotsBeforeReads S.Store lots.old lots.new) last now)) }
 
-    // The number of lots read, also if the call fails. Lots are read 16 at a time: hence the 15.
+    // The number of lots read, also if the call fails. Lots are read 4 at a time: hence the 3.
     ensures few_rows_read { ResultReadsAtMostOneLotMore (Some found.now) price (stamp_or_clock_reading (moments.stamp_after last now) now)
-        (AreLotsBeforeReads S.Store lots.old lots.new) (number_of_rows_read lots.old + 15) (number_of_rows_read lots.new) }
+        (AreLotsBeforeReads S.Store lots.old lots.new) (number_of_rows_read lots.old + 3) (number_of_rows_read lots.new) }
     ensures no_lot_read { ClosesNoHeldShares found.now → lots.new ≡ lots.old }
 {
     plan_result(alloc, Some(found), price, lots, last, now).map_err(call_fault)

@@ -4,7 +4,7 @@
 ghost use Rattle.brk_trade_theorems.specs.Decisions.{DecidesCommand};
 ghost use Rattle.brk_ref_orders.specs.Records.{text_update_command};
 ghost use Rattle.brk_store_transactions.specs.Holds.{ReadPost};
-ghost use Rattle.brk_store.specs.ReadSequences.{ReadSequencePost};
+ghost use Rattle.brk_store_reads.specs.ReadSequences.{ReadSequencePost};
 ghost use Rattle.brk_trade_theorems.specs.Corrections.{UpdateFactsMatchTables};
 
 use crate::update_finding::{cash_name_facts, cash_type_facts, executor_facts};

@@ -4,7 +4,7 @@ ghost use Rattle.std.specs.Prelude.{◌≡◌, MatchOption, is_none, is_some, tr
 ghost use Rattle.brk_trade_rows.specs.Chosen as chosen;
 ghost use Rattle.brk_model.specs.Joins.{account_row_with_id, security_row_with_symbol};
 ghost use Rattle.brk_store_transactions.specs.Holds.{ReadPost};
-ghost use Rattle.brk_store.specs.ReadSequences.{ReadSequencePost};
+ghost use Rattle.brk_store_reads.specs.ReadSequences.{ReadSequencePost};
 ghost use Rattle.brk_trade_theorems.specs.Corrections.{CashTextsMatchTables, SettlementTextsMatchTables, UpdateFactsMatchTables, SecurityHasName};
 ghost use Rattle.brk_ref_orders.specs.declared.update.Update.TheVariants as update;
 

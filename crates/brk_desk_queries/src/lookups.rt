@@ -6,7 +6,7 @@ ghost use Rattle.brk_desk_queries.specs.LookedUp.{HaveAllRowsOfTrades, HasAllRow
 ghost use Rattle.brk_desk_queries.specs.QueryResults.{AnswersQueryAsModel};
 ghost use Rattle.brk_model.specs.Queries.{TradesOfAccount, TradesOfSymbol, TradesWith};
 ghost use Rattle.brk_store_transactions.specs.Holds.{ReadPost};
-ghost use Rattle.brk_store.specs.ReadSequences.{ReadSequencePost};
+ghost use Rattle.brk_store_reads.specs.ReadSequences.{ReadSequencePost};
 
 use brk_money::{CallFault, Id, Planned, Refusal};
 use brk_ref::{Span, Symbol, TradeRow};

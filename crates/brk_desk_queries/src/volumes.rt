@@ -8,7 +8,7 @@ ghost use Rattle.brk_desk_queries.specs.Volumes.{requests_with_row_if_of_broker_
 ghost use Rattle.brk_model.specs.Queries.{VolumeOf};
 ghost use Rattle.brk_ref.specs.Records.{abstract_broker_row};
 ghost use Rattle.brk_store_transactions.specs.Holds.{ReadPost};
-ghost use Rattle.brk_store.specs.ReadSequences.{ReadSequencePost};
+ghost use Rattle.brk_store_reads.specs.ReadSequences.{ReadSequencePost};
 ghost use Rattle.brk_view_rows.specs.Volume as volume;
 
 use brk_money::{CallFault, Id, Planned};

@@ -4,8 +4,8 @@ use Rattle.sqlite_trees.specs.declared.store.Store.{Ghosts}
 use Rattle.sqlite.specs.Held.{Held}
 use Rattle.brk_model.specs.Tables.{Tables}
 use Rattle.brk_store_transactions.specs.Holds.{ReadPost}
-use Rattle.brk_store.specs.ReadSequences.{IsUnchangedByReads, joined_reads_change_nothing, single_read_changes_nothing}
-use Rattle.brk_store.proofs.Retelling.{read_after}
+use Rattle.brk_store_reads.specs.ReadSequences.{IsUnchangedByReads, joined_reads_change_nothing, single_read_changes_nothing}
+use Rattle.brk_store_reads.proofs.Retelling.{read_after}
 
 module _ {S : Type 0} (g : Ghosts S) (old mid end : Held S) where
   -- where what comes after two reads fails, they changed nothing

@@ -17,7 +17,7 @@ use Rattle.brk_tables_views.specs.declared.walking.WalkError.{WalkError}
 use Rattle.brk_tables_views.specs.declared.walking.WalkError.TheVariants.{Failed, Cause}
 use Rattle.brk_model_explain.specs.BrokerLines.{accounts_with_broker, broker_of_account_or_zero, completed_trades_of_broker}
 use Rattle.brk_store_transactions.specs.Holds.{HoldsRows, ReadPost}
-use Rattle.brk_store.specs.ReadSequences.{IsUnchangedByReads, disk_was_clean_before_reads, single_read_changes_nothing, joined_reads_change_nothing}
+use Rattle.brk_store_reads.specs.ReadSequences.{IsUnchangedByReads, disk_was_clean_before_reads, single_read_changes_nothing, joined_reads_change_nothing}
 use Rattle.brk_store.specs.Walked.{EqualsStoredList, IsPrefixOfStoredList, WalkPost, completed_trades_by_stamp}
 use Rattle.brk_store.proofs.WalkedLists.{IsStrictlyAscendingBy, accounts_climb, completed_filter}
 use Rattle.brk_explain_reads.specs.Skipping.{VisitorTakesRecordOnlyIf}

@@ -37,6 +37,7 @@ pub mod Input
 pub mod Batch
 pub mod Computed
 pub mod Statement
+pub mod Statements
 pub mod Adopted
 pub mod Form
 pub mod Ways

@@ -7,3 +7,5 @@ pub mod Opened
 pub mod Reported
 pub mod Section
 pub mod Whole
+pub mod Several
+pub mod SeveralPosts

@@ -2,3 +2,4 @@ pub mod StatementOutput
 pub mod CashWalk
 pub mod WalkFaults
 pub mod StatementParts
+pub mod StatementsOutput

@@ -3,5 +3,6 @@
 
 mod parts;
 pub mod sections;
+pub mod several;
 pub mod visitors;
 pub mod writing;

@@ -1,12 +1,10 @@
 pub mod Counting
-pub mod Retelling
 pub mod Turning
 pub mod WalkedLists
 pub mod Walking
-pub mod Sequences
-pub mod ReadResults
 pub mod TradesFound
 pub mod KeptIndex
-pub mod ByAges
+pub mod AdoptedReads
 pub mod ByIndex
+pub mod TradesByIndex
 pub mod Definitions

@@ -25,17 +25,17 @@ page_turned rows read page e = ap (map lot_of_row) (go (nat_lt (length page) pag
     k : List HoldingRow
     k = drop read rows
 
-    size : length page ≡ min 16 (length k)
-    size = sym (length-map page abstract_holding_row) ∙ ap length e ∙ length-take 16 k
+    size : length page ≡ min 4 (length k)
+    size = sym (length-map page abstract_holding_row) ∙ ap length e ∙ length-take 4 k
 
     go : (b : Bool) → nat_lt (length page) page_size ≡ b → map abstract_holding_row page ++ unread_rows b (read + length page) rows ≡ k
-    go true h = append-nil (map abstract_holding_row page) ∙ e ∙ take_all 16 k (omega (arith, ltb-true (length page) 16 h, size))
+    go true h = append-nil (map abstract_holding_row page) ∙ e ∙ take_all 4 k (omega (arith, ltb-true (length page) 4 h, size))
     go false h =
-        let full : length page ≡ 16 = omega (arith, ltb-false (length page) 16 h, size) in
+        let full : length page ≡ 4 = omega (arith, ltb-false (length page) 4 h, size) in
         ap (λ (n : ℕ). map abstract_holding_row page ++ drop (read + n) rows) full
-        ∙ ap (λ (l : List HoldingRow). l ++ drop (read + 16) rows) e
-        ∙ ap (λ (l : List HoldingRow). take 16 k ++ l) (sym (drop-drop 16 read rows))
-        ∙ take-append-drop 16 k
+        ∙ ap (λ (l : List HoldingRow). l ++ drop (read + 4) rows) e
+        ∙ ap (λ (l : List HoldingRow). take 4 k ++ l) (sym (drop-drop 4 read rows))
+        ∙ take-append-drop 4 k
 
 module _ {S : Type 0} (g : Ghosts S) (held : Held S) (lifo : Bool) (account : ℕ) (symbol : Text) where
   -- For some rows that the store holds, `ls` are the lots that a source of pages with this state

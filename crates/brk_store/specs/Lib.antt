@@ -1,5 +1,4 @@
 pub mod Adopted
-pub mod ReadSequences
 pub mod Numbers
 pub mod Walked
 pub mod Pages

@@ -7,6 +7,7 @@ ghost use Rattle.brk_store_transactions.specs.Audited.{AdoptPost, AuditPost, Con
 ghost use Rattle.brk_store.specs.Adopted.{ConnectionPassesDefinitionTest, ConnectionTablesWithDeskNamesAreDefined};
 
 use crate::Store;
+use crate::index::index_of_adopted;
 use brk_money::Fault;
 use brk_store_transactions::{audit_and_upgrade_database, audit_database};
 use brk_tables_definitions::test_definitions;
@@ -58,11 +59,12 @@ impl<S: Alter> Store<S> {
             return Err((conn, Fault::Store));
         }
         match audit_and_upgrade_database(&mut conn, alloc) {
-            Ok(()) => Ok(Store {
-                conn,
-                known: has_definitions,
-                index: None,
-            }),
+            Ok(is_upgraded) => {
+                match index_of_adopted(&mut conn, alloc, has_definitions, is_upgraded) {
+                    Ok(index) => Ok(Store { conn, index }),
+                    Err(_) => Err((conn, Fault::Store)),
+                }
+            }
             Err(fault) => Err((conn, fault)),
         }
     }

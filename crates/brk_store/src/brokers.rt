@@ -1,8 +1,8 @@
-//! Reads of brokers by name, and of a broker's accounts; the broker with an id is read in
-//! `reading`, its totals in `numbers`. Each read begins a transaction and ends it without a commit
-//! (no clause states this). A read fails with `Store` also if a row is malformed or if the `sqlite`
-//! crate runs out of memory. A crash after a read exposes only states that a crash before it could
-//! expose.
+//! Reads of brokers by name, of the accounts of a broker, and of all accounts; the broker with an id
+//! is read in `reading`, its totals in `numbers`. Each read begins a transaction and ends it without
+//! a commit (no clause states this). A read fails with `Store` also if a row is malformed or if the
+//! `sqlite` crate runs out of memory. A crash after a read exposes only states that a crash before
+//! it could expose.
 #![tactic(auto, using(brk_store_transactions::proofs::Ending::read_is_over, crate::proofs::KeptIndex::read_keeps_index))]
 
 ghost use Rattle.std.specs.Prelude.{◌≡◌, ◌==◌, bytes_eq, filter, map};
@@ -33,5 +33,13 @@ impl<S: Alter> Store<S> {
     {
         let mut tx = begin_transaction(&mut self.conn);
         brk_tables_views::account_ids_of_broker(&mut tx, alloc, broker)
+    }
+
+    /// Returns the ids of all accounts, ascending.
+    pub fn account_ids(&mut self, alloc: Global) -> Result<Vec<Id>, CallFault>
+        ensures read { ReadPost S.Store self.old self.new result (λ all t. all.items ≡ map (λ r. r.id) t.accounts) }
+    {
+        let mut tx = begin_transaction(&mut self.conn);
+        brk_tables_views::all_account_ids(&mut tx, alloc)
     }
 }

@@ -11,8 +11,12 @@ ghost use Rattle.brk_tables_schema.specs.Desk.{HoldingHistory};
 ghost use Rattle.brk_tables_schema.specs.Statements.{AreMatchingRows};
 
 use crate::Store;
+use crate::index::StoreIndex;
 use brk_money::{CallFault, Id};
 use brk_ref::LotChange;
+use brk_store_index::Group;
+use brk_store_reads::accounts_by_age::LotChangesOfTrade;
+use brk_store_reads::by_age::read_all_rows;
 use brk_store_transactions::begin_transaction;
 use sqlite::Alter;
 use std::alloc::Global;
@@ -26,6 +30,10 @@ impl<S: Alter> Store<S> {
     ) -> Result<Vec<LotChange>, CallFault>
         ensures read { ReadPost S.Store self.old self.new result (AreMatchingRows HoldingHistory abstract_lot_change_row (λ r. r.trade == trade)) }
     {
+        if let StoreIndex::Made(index) = &self.index {
+            let ages = index.ages(&Group::LotChangesOfTrade(trade));
+            return read_all_rows(&mut self.conn, alloc, &LotChangesOfTrade { trade }, ages);
+        }
         let mut tx = begin_transaction(&mut self.conn);
         brk_tables_views::lot_changes_by_trade(&mut tx, alloc, trade)
     }

@@ -1,4 +1,4 @@
-//! The lots of a position, which a source reads from the store 16 rows at a time (a page of them).
+//! The lots of a position, which a source reads from the store 4 rows at a time (a page of them).
 
 ghost use Rattle.std.specs.Prelude.{◌≡◌, ◌≢◌, ◌≤◌, ◌+◌, IfOk, IsTrue, length, map, pos};
 ghost use Rattle.std.specs.List.{All};
@@ -17,7 +17,7 @@ use std::alloc::Global;
 
 // The number of rows of a page; the last page may have fewer. The SQL statements that read a page
 // contain this number too.
-const PAGE_SIZE: usize = 16;
+const PAGE_SIZE: usize = 4;
 
 /// The rows of a page, and the number of them that were returned as lots (1 for an empty page that
 /// was read).
@@ -25,12 +25,12 @@ const PAGE_SIZE: usize = 16;
 pub struct Page {
     rows: Vec<HoldingRow>,
     returned: usize,
-    ghost few: { length rows.items ≤ returned + 15 },
+    ghost few: { length rows.items ≤ returned + 3 },
     ghost some_shares: { All (λ r. r.qty ≢ pos 0) rows.items },
 }
 
 /// A source of the lots of an account in a security, the oldest first or the newest first. Of the
-/// rows that it reads, at most 15 are not yet returned as lots (`rows_read`). It borrows the store.
+/// rows that it reads, at most 3 are not yet returned as lots (`rows_read`). It borrows the store.
 pub type LotPages<'a, S> = Pages<'a, S, Page>;
 
 /// A source of lots that reads a borrowed store in pages. `P` is always `Page` (`LotPages`). It is
@@ -42,7 +42,7 @@ pub struct Pages<'a, S: Alter, P> {
     symbol: &'a Symbol,
     lifo: bool,
     page: P,
-    // `read`: the number of rows that were read. `ended`: true once a page had fewer than 16 rows.
+    // `read`: the number of rows that were read. `ended`: true once a page had fewer than 4 rows.
     read: u32,
     ended: bool,
     // The number of calls of `next` that failed; it stops at the greatest `u64`.
@@ -76,7 +76,7 @@ fn is_valid_lot_page(rows: &[HoldingRow]) -> bool
     rows.len() <= PAGE_SIZE && rows.iter().all(|row| row.qty != 0)
 }
 
-// Fails also if the page has more than 16 rows or a lot without shares.
+// Fails also if the page has more than 4 rows or a lot without shares.
 fn read_valid_lot_page<S: Alter>(
     store: &mut Store<S>,
     alloc: Global,
@@ -120,7 +120,7 @@ impl<S: Alter> Store<S> {
     /// Returns a source of the lots of an account in a security, the newest first if `lifo`,
     /// otherwise the oldest first. It has read no row yet.
     ///
-    /// A call of the source fails with `Memory` or `Store`, also if a page has more than 16 rows or
+    /// A call of the source fails with `Memory` or `Store`, also if a page has more than 4 rows or
     /// a lot without shares. The remaining lots are then unchanged: the call may be repeated after
     /// `Memory`; after `Store`, drop the store.
     pub fn lot_pages<'a>(
@@ -167,17 +167,17 @@ impl<S: Alter> Pages<'_, S, Page> {
     ghost use Rattle.brk_ref.specs.Rows.{abstract_holding_row};
     ghost use Rattle.brk_model.specs.Tables.{Tables};
     ghost use Rattle.brk_store_transactions.specs.Holds.{HoldsRows};
-    ghost use Rattle.brk_store.specs.ReadSequences.{IsUnchangedByReads};
+    ghost use Rattle.brk_store_reads.specs.ReadSequences.{IsUnchangedByReads};
     ghost use Rattle.brk_store.specs.Pages.{lot_rows_in_closing_order};
     ghost use Rattle.brk_store.specs.RemainingLots.{AreRemainingLots, number_of_rows_read};
     ghost use Rattle.brk_tables_trading.specs.Pages.{page_after_skipped, page_size};
 
-    /// Returns the number of rows that were read: at most 15 more than lots were returned
+    /// Returns the number of rows that were read: at most 3 more than lots were returned
     /// (`asked`).
     pub fn rows_read(&self) -> u64
         ensures counted { result ≡ number_of_rows_read self.now }
         ensures least { ⟦<Pages<'static, S, Page> as LotSource>⟧.asked self.now ≤ result }
-        ensures most { result ≤ ⟦<Pages<'static, S, Page> as LotSource>⟧.asked self.now + 15 }
+        ensures most { result ≤ ⟦<Pages<'static, S, Page> as LotSource>⟧.asked self.now + 3 }
     {
         u64::from(self.read)
     }
@@ -197,7 +197,7 @@ impl<S: Alter> Pages<'_, S, Page> {
         ensures counted { IfOk result (λ page. self.new.read ≡ self.old.read + length page.items) }
         ensures count_at_error { OnErr result (self.new.read ≡ self.old.read) }
 
-        // Also if the disk assumption fails: at most 16 rows, none without shares.
+        // Also if the disk assumption fails: at most 4 rows, none without shares.
         ensures few { IfOk result (λ page. length page.items ≤ page_size) }
         ensures some_shares { IfOk result (λ page. All (λ r. r.qty ≢ pos 0) page.items) }
     {
@@ -263,8 +263,8 @@ impl<S: Alter> LotSource for Pages<'_, S, Page> {
     ghost use Rattle.sqlite.specs.Held.{state};
     ghost use Rattle.sqlite.specs.State.{HasCleanDisk};
     ghost use Rattle.brk_model.specs.Run.{IsCallFault};
-    ghost use Rattle.brk_store.specs.ReadSequences.{IsUnchangedByReads, disk_was_clean_before_reads};
-    ghost use Rattle.brk_store.specs.ReadSequences.{empty_read_sequence_changes_nothing, joined_reads_change_nothing};
+    ghost use Rattle.brk_store_reads.specs.ReadSequences.{IsUnchangedByReads, disk_was_clean_before_reads};
+    ghost use Rattle.brk_store_reads.specs.ReadSequences.{empty_read_sequence_changes_nothing, joined_reads_change_nothing};
     ghost use Rattle.brk_store.specs.RemainingLots.{AreRemainingLots};
 
     ghost remaining = { λ p ls. AreRemainingLots S.Store p ls };

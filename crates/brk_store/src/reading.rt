@@ -12,8 +12,12 @@ ghost use Rattle.brk_tables_schema.specs.Desk.{Accounts, Brokers, Customers, Kep
 ghost use Rattle.brk_tables_schema.specs.Statements.{IsFirstMatch, AreMatchingRows};
 
 use crate::Store;
+use crate::index::StoreIndex;
 use brk_money::{CallFault, Id, Stamp, StoreFailed};
 use brk_ref::{AccountRow, BrokerRow, Customer, Kept, Key, TaxId};
+use brk_store_index::Group;
+use brk_store_reads::accounts_by_age::AccountsOfCustomer;
+use brk_store_reads::by_age::read_all_rows;
 use brk_store_transactions::begin_transaction;
 use sqlite::Alter;
 use std::alloc::Global;
@@ -68,6 +72,15 @@ impl<S: Alter> Store<S> {
     ) -> Result<Vec<AccountRow>, CallFault>
         ensures read { ReadPost S.Store self.old self.new result (AreMatchingRows Accounts abstract_account_row (λ r. r.customer == customer)) }
     {
+        if let StoreIndex::Made(index) = &self.index {
+            let ages = index.ages(&Group::AccountsOfCustomer(customer));
+            return read_all_rows(
+                &mut self.conn,
+                alloc,
+                &AccountsOfCustomer { customer },
+                ages,
+            );
+        }
         let mut tx = begin_transaction(&mut self.conn);
         brk_tables_reference::accounts_of_customer(&mut tx, alloc, customer)
     }

@@ -1,13 +1,13 @@
 //! The store: its creation, the changes of its rows, and its connection; `adoption` opens an
 //! existing database.
 
-use crate::indexed::index_after_changes;
+use crate::index::{StoreIndex, index_after_changes};
 use brk_money::Fault;
-use brk_store_lots::LotIndex;
 use brk_store_transactions::{apply_changes, create_tables_atomically};
 use brk_trade_rows::Change;
 use sqlite::{Alter, Connection};
 use std::marker::Model;
+use std::mem;
 
 /// A connection to a database with the tables of a desk. `HoldsRows` states which rows these tables
 /// have; the type itself ensures only that the connection is in autocommit mode between calls. In
@@ -30,11 +30,7 @@ use std::marker::Model;
 /// the store, a crash may expose the changes of the call as committed.
 pub struct Store<S: Alter> {
     pub(crate) conn: Connection<S>,
-    // True only if the database, while it is open, has the tables of a desk with some rows. False also
-    // once the index could not be made.
-    pub(crate) known: bool,
-    // The index of the lots, or `None` if it was not made yet, or could not be kept.
-    pub(crate) index: Option<LotIndex>,
+    pub(crate) index: StoreIndex,
 }
 
 impl<S: Alter> Model for Store<S> {
@@ -48,16 +44,12 @@ impl<S: Alter> Model for Store<S> {
 
     ghost view = { λ s. s.conn };
 
-    ghost invariant = { λ s. (s.conn.in_transaction ≡ false) × IndexIsTrue S.Store s.conn s.known s.index };
+    ghost invariant = { λ s. (s.conn.in_transaction ≡ false) × IndexIsTrue S.Store s.conn s.index };
 }
 
 impl<S: Alter + Drop> Drop for Store<S> {
     fn drop(self) {
-        let Store {
-            conn: _,
-            known: _,
-            index: _,
-        } = self;
+        let Store { conn: _, index: _ } = self;
     }
 }
 
@@ -90,8 +82,7 @@ impl<S: Alter> Store<S> {
         match create_tables_atomically(&mut conn) {
             Ok(()) => Ok(Store {
                 conn,
-                known: true,
-                index: None,
+                index: StoreIndex::Unmade,
             }),
             Err(fault) => Err((conn, fault)),
         }
@@ -113,7 +104,8 @@ impl<S: Alter> Store<S> {
     {
         match apply_changes(&mut self.conn, changes) {
             Ok(()) => {
-                self.index = index_after_changes(self.index.take(), changes);
+                let index = mem::replace(&mut self.index, StoreIndex::Absent);
+                self.index = index_after_changes(index, changes);
                 Ok(())
             }
             Err(_) => Err(Fault::Store),
@@ -125,11 +117,7 @@ impl<S: Alter> Store<S> {
         ensures same { result ≡ self }
         ensures autocommit { result.in_transaction ≡ false }
     {
-        let Store {
-            conn,
-            known: _,
-            index: _,
-        } = self;
+        let Store { conn, index: _ } = self;
         conn
     }
 }

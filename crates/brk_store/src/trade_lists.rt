@@ -12,8 +12,12 @@ ghost use Rattle.brk_tables_schema.specs.Desk.{TradeHistory};
 ghost use Rattle.brk_tables_schema.specs.Statements.{AreMatchingRows};
 
 use crate::Store;
+use crate::index::StoreIndex;
 use brk_money::{CallFault, Id};
 use brk_ref::{HistoryRow, TradeRow};
+use brk_store_index::Group;
+use brk_store_reads::by_age::read_chosen_rows;
+use brk_store_reads::trades_by_age::TradesOfAccount;
 use brk_store_transactions::begin_transaction;
 use sqlite::Alter;
 use std::alloc::Global;
@@ -29,6 +33,11 @@ impl<S: Alter> Store<S> {
         ensures read { ReadPost S.Store self.old self.new result (λ all t. map abstract_trade_row all.items
             ≡ take 10 (trade_rows_recent_first (trade_rows_of_account t account))) }
     {
+        if let StoreIndex::Made(index) = &self.index {
+            let ages = index.ages(&Group::TradesOfAccount(account));
+            let trades = TradesOfAccount { account };
+            return read_chosen_rows(&mut self.conn, alloc, &trades, ages, true, 0, 10);
+        }
         let mut tx = begin_transaction(&mut self.conn);
         brk_tables_trading::last_ten_trades(&mut tx, alloc, account)
     }
@@ -42,6 +51,11 @@ impl<S: Alter> Store<S> {
         ensures read { ReadPost S.Store self.old self.new result (λ all t. map abstract_trade_row all.items
             ≡ take 50 (trade_rows_recent_first (trade_rows_of_account t account))) }
     {
+        if let StoreIndex::Made(index) = &self.index {
+            let ages = index.ages(&Group::TradesOfAccount(account));
+            let trades = TradesOfAccount { account };
+            return read_chosen_rows(&mut self.conn, alloc, &trades, ages, true, 0, 50);
+        }
         let mut tx = begin_transaction(&mut self.conn);
         brk_tables_trading::last_fifty_trades(&mut tx, alloc, account)
     }

@@ -5,8 +5,8 @@
 //! before it could expose.
 #![tactic(auto, using(brk_store_transactions::proofs::Ending::read_is_over, crate::proofs::KeptIndex::read_keeps_index))]
 
-ghost use Rattle.std.specs.Prelude.{◌≡◌, ◌==◌, ◌&&◌, bytes_eq, map, nat_le, option_map, reverse, slice_get};
-ghost use Rattle.brk_money.specs.Kinds.{is_same_trade_status, is_same_trade_type};
+ghost use Rattle.std.specs.Prelude.{◌≡◌, ◌==◌, bytes_eq, map, option_map, reverse, slice_get};
+ghost use Rattle.brk_money.specs.Kinds.{is_same_trade_status};
 ghost use Rattle.brk_money.specs.declared.status.Status.TheVariants.{Submitted};
 ghost use Rattle.brk_ref.specs.Records.{abstract_last_trade_row};
 ghost use Rattle.brk_ref.specs.Rows.{abstract_request_row, abstract_trade_row};
@@ -15,8 +15,12 @@ ghost use Rattle.brk_tables_schema.specs.Desk.{LastTrades, Requests, Trades};
 ghost use Rattle.brk_tables_schema.specs.Statements.{IsFirstMatch, AreMatchingRows};
 
 use crate::Store;
-use brk_money::{CallFault, Id, Price, StoreFailed, TradeType};
+use crate::index::StoreIndex;
+use brk_money::{CallFault, Id, StoreFailed};
 use brk_ref::{LastTrade, RequestRow, Symbol, TradeRow};
+use brk_store_index::Group;
+use brk_store_reads::by_age::read_all_rows;
+use brk_store_reads::trades_by_age::SubmittedTrades;
 use brk_store_transactions::begin_transaction;
 use sqlite::Alter;
 use std::alloc::Global;
@@ -42,40 +46,24 @@ impl<S: Alter> Store<S> {
     pub fn submitted_trades(&mut self, alloc: Global) -> Result<Vec<TradeRow>, CallFault>
         ensures read { ReadPost S.Store self.old self.new result (AreMatchingRows Trades abstract_trade_row (λ r. is_same_trade_status r.status Submitted)) }
     {
+        if let StoreIndex::Made(index) = &self.index {
+            let ages = index.ages(&Group::SubmittedTrades);
+            return read_all_rows(&mut self.conn, alloc, &SubmittedTrades, ages);
+        }
         let mut tx = begin_transaction(&mut self.conn);
         brk_tables_trading::submitted_trades(&mut tx, alloc)
     }
 
-    /// Returns the requests of a symbol and a trade type whose limit or stop price (TR_BID_PRICE,
-    /// in cents) is at least `price`, sorted by trade, ascending.
-    pub fn requests_at_least(
+    /// Returns the requests of a symbol (TRADE_REQUEST), sorted by trade, ascending.
+    pub fn requests_of_symbol(
         &mut self,
         alloc: Global,
         symbol: &Symbol,
-        kind: TradeType,
-        price: Price,
     ) -> Result<Vec<RequestRow>, CallFault>
-        ensures read { ReadPost S.Store self.old self.new result (AreMatchingRows Requests abstract_request_row (λ r. bytes_eq r.symbol symbol.now
-            && (is_same_trade_type r.kind kind && nat_le price r.bid))) }
+        ensures read { ReadPost S.Store self.old self.new result (AreMatchingRows Requests abstract_request_row (λ r. bytes_eq r.symbol symbol.now)) }
     {
         let mut tx = begin_transaction(&mut self.conn);
-        brk_tables_trading::requests_at_least(&mut tx, alloc, symbol, kind, price)
-    }
-
-    /// Does for prices of at most `price` what `requests_at_least` does for those of at least
-    /// `price`.
-    pub fn requests_at_most(
-        &mut self,
-        alloc: Global,
-        symbol: &Symbol,
-        kind: TradeType,
-        price: Price,
-    ) -> Result<Vec<RequestRow>, CallFault>
-        ensures read { ReadPost S.Store self.old self.new result (AreMatchingRows Requests abstract_request_row (λ r. bytes_eq r.symbol symbol.now
-            && (is_same_trade_type r.kind kind && nat_le r.bid price))) }
-    {
-        let mut tx = begin_transaction(&mut self.conn);
-        brk_tables_trading::requests_at_most(&mut tx, alloc, symbol, kind, price)
+        brk_tables_trading::requests_of_symbol(&mut tx, alloc, symbol)
     }
 
     /// Returns the last trade of a symbol on the market or, before the first tick, its listing.

@@ -3,7 +3,7 @@
 ghost use Rattle.std.specs.Prelude.{◌≡◌, MatchOption, is_none, true};
 ghost use Rattle.std.specs.List.{list_any};
 ghost use Rattle.brk_model.specs.Joins.{trade_row_with_id};
-ghost use Rattle.brk_store.specs.ReadSequences.{ReadSequencePost};
+ghost use Rattle.brk_store_reads.specs.ReadSequences.{ReadSequencePost};
 ghost use Rattle.brk_trade_books.specs.TradeReads.{AreTradesWithIds};
 
 use crate::Store;

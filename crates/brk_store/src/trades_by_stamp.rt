@@ -11,8 +11,14 @@ ghost use Rattle.brk_model.specs.LookupView.{row_stamp_is_between};
 ghost use Rattle.brk_store_transactions.specs.Holds.{ReadPost};
 
 use crate::Store;
+use crate::index::StoreIndex;
 use brk_money::{CallFault, Id, Stamp, StoreFailed};
 use brk_ref::{Span, Symbol, TradeRow};
+use brk_store_index::Group;
+use brk_store_reads::by_age::read_row_if_any;
+use brk_store_reads::trades_by_age::{
+    TradesOfAccount, TradesOfSymbol, first_age_since, read_twenty_between,
+};
 use brk_store_transactions::begin_transaction;
 use sqlite::Alter;
 use std::alloc::Global;
@@ -29,6 +35,11 @@ impl<S: Alter> Store<S> {
         ensures read { ReadPost S.Store self.old self.new result (λ all t. map abstract_trade_row all.items
             ≡ take 20 (trade_rows_oldest_first (filter (λ r. (r.account == account) && row_stamp_is_between span.first span.last r) t.trades))) }
     {
+        if let StoreIndex::Made(index) = &self.index {
+            let ages = index.ages(&Group::TradesOfAccount(account));
+            let trades = TradesOfAccount { account };
+            return read_twenty_between(&mut self.conn, alloc, &trades, ages, span.first, span.last);
+        }
         let mut tx = begin_transaction(&mut self.conn);
         brk_tables_views::twenty_trades_of_account(&mut tx, alloc, account, span.first, span.last)
     }
@@ -43,6 +54,11 @@ impl<S: Alter> Store<S> {
         ensures read { ReadPost S.Store self.old self.new result (λ all t. map abstract_trade_row all.items
             ≡ take 20 (trade_rows_oldest_first (filter (λ r. bytes_eq r.symbol symbol.now && row_stamp_is_between span.first span.last r) t.trades))) }
     {
+        if let StoreIndex::Made(index) = &self.index {
+            let ages = index.ages(&Group::TradesOfSymbol(symbol));
+            let trades = TradesOfSymbol { symbol };
+            return read_twenty_between(&mut self.conn, alloc, &trades, ages, span.first, span.last);
+        }
         let mut tx = begin_transaction(&mut self.conn);
         brk_tables_views::twenty_trades_of_symbol(&mut tx, alloc, symbol, span.first, span.last)
     }
@@ -57,6 +73,10 @@ impl<S: Alter> Store<S> {
         ensures read { ReadPost S.Store self.old self.new result (λ o t. option_to_list (option_map abstract_trade_row o)
             ≡ take 1 (trade_rows_oldest_first (filter (λ r. nat_le first r.stamp) (trade_rows_of_account t account)))) }
     {
+        if let StoreIndex::Made(index) = &self.index {
+            let age = first_age_since(index.ages(&Group::TradesOfAccount(account)), first);
+            return read_row_if_any(&mut self.conn, &TradesOfAccount { account }, age);
+        }
         let mut tx = begin_transaction(&mut self.conn);
         brk_tables_views::first_trade_of_account_since(&mut tx, account, first)
     }

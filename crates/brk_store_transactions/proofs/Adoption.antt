@@ -265,6 +265,13 @@ module _ {S : Type 0} (g : Ghosts S) (old first : Held S) (settled : IsTrue (sta
               strangers_stay (IsTableOfSchema third_schema) p.1.0.0 (state g old).now (state g end).now (same_at clean on).now,
             )
 
+    -- and it was there before
+    third_there : (end : Held S) (schema : known.Schema) → told ≡ Succeeds schema → (abstract_schema schema).has_settle_rule_table ≡ true
+        → Survives (state g first) (state g end) (λ _. ⊥) → HasCleanDisk (state g end) → ConnectionTablesWithDeskNamesAreDeskTables g old → ConnectionHasThirdSchema g old
+    third_there end schema is rule late clean defined =
+        let p = told_at end (Succeeds Third) (subst (λ s. told ≡ Succeeds s) (third_has_rule schema rule) is) late clean defined in
+        λ _ _. desk_is_there third_schema p.0 (state g old).now p.1.0
+
     -- then a test that the database is open
     module _ (mid end : Held S) (late : Survives (state g first) (state g mid) (λ _. ⊥)) (back : HasCleanDisk (state g mid) → IsRolledBack (state g first) (state g mid))
         (same : HasCleanDisk (state g end) → IsUnchanged (state g mid) (state g end) ⊎ IsRolledBack (state g mid) (state g end)) (later : Survives (state g mid) (state g end) (λ _. ⊥)) where
@@ -277,6 +284,10 @@ module _ {S : Type 0} (g : Ghosts S) (old first : Held S) (settled : IsTrue (sta
       pub passes_open : (schema : known.Schema) → told ≡ Succeeds schema → (abstract_schema schema).has_settle_rule_table ≡ true
           → (HasCleanDisk (state g end) → IsTrue (state g end).is_open) → AdoptPost g old end (Ok tt)
       passes_open schema is rule opened = passes end schema is rule late_end back_end opened
+
+      pub third_open : (schema : known.Schema) → told ≡ Succeeds schema → (abstract_schema schema).has_settle_rule_table ≡ true
+          → HasCleanDisk (state g end) → ConnectionTablesWithDeskNamesAreDeskTables g old → ConnectionHasThirdSchema g old
+      third_open schema is rule clean defined = third_there end schema is rule late_end clean defined
 
       pub found_closed : AdoptPost g old end (Err Store)
       found_closed = gave_up first end (Ok told) ReturnsTrueAuditResult step late_end back_end call.Store

@@ -14,4 +14,5 @@ mod upgrading;
 pub use auditing::audit_database;
 pub use beginning::begin_transaction;
 pub use changing::{apply_changes, create_tables_atomically};
+pub use openness::require_open;
 pub use upgrading::audit_and_upgrade_database;

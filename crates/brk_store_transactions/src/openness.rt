@@ -9,7 +9,7 @@ use brk_tables_schema::Table;
 use sqlite::{Alter, Connection};
 
 /// Fails if the database is closed. Compiles a statement, and reads no row.
-pub(crate) fn require_open<S: Alter>(conn: &mut Connection<S>) -> Result<(), StoreFailed>
+pub fn require_open<S: Alter>(conn: &mut Connection<S>) -> Result<(), StoreFailed>
     ensures mode { conn.old.in_transaction ≡ false → conn.new.in_transaction ≡ false }
     ensures is_open { HasCleanDisk (state S.Store conn.new) → OnOk result (IsTrue (state S.Store conn.new).is_open) }
     ensures unchanged { HasCleanDisk (state S.Store conn.new) → IsUnchanged (state S.Store conn.old) (state S.Store conn.new)

@@ -24,26 +24,25 @@ pub use brk_tables_cash::{
 pub use brk_tables_reference::{
     account_by_id, accounts_of_customer, add_account, add_band, add_broker, add_charge,
     add_customer, add_customer_tax, add_last_trade, add_permission, add_security, add_tax_rate,
-    bands_for, broker_by_id, charge_for, customer_by_id, customer_by_tax_id, customer_tax_by_ids,
-    permission_for, security_by_symbol, tax_rate_by_id, taxes_of_customer,
+    all_accounts, bands_for, broker_by_id, charge_for, customer_by_id, customer_by_tax_id,
+    customer_tax_by_ids, permission_for, security_by_symbol, tax_rate_by_id, taxes_of_customer,
 };
 pub use brk_tables_scan::{database_has_schema, has_some_desk_table, read_sheets, rows};
 pub use brk_tables_schema::{add_kept_row, kept_row_by_key, last_stamp, set_last_stamp};
 pub use brk_tables_trading::{
     account_summaries, add_holding_summary, add_lot, add_lot_change, add_request, add_settlement,
-    add_trade, add_trade_history_row, all_lots, complete_trade, greatest_trade_id,
+    add_trade, add_trade_history_row, all_lots, all_trades, complete_trade, greatest_trade_id,
     history_of_trade, last_fifty_trades, last_ten_trades, last_trade_by_symbol, lot_by_trade,
     newest_lots, oldest_lots, position_summary, remove_holding_summary, remove_lot, remove_request,
-    requests_at_least, requests_at_most, set_account_balance, set_broker_totals, set_cash_type,
-    set_executor, set_last_trade, set_lot_quantity, set_summary_quantity, set_trade_status,
-    settlement_by_trade, submitted_trades, trade_by_id, twenty_completed_cash_trades,
-    twenty_completed_trades,
+    requests_of_symbol, set_account_balance, set_broker_totals, set_cash_type, set_executor,
+    set_last_trade, set_lot_quantity, set_summary_quantity, set_trade_status, settlement_by_trade,
+    submitted_trades, trade_by_id, twenty_completed_cash_trades, twenty_completed_trades,
 };
 pub use brk_tables_views::{
-    Visitor, WalkError, account_ids_of_broker, all_requests, brokers_with_name,
-    completed_trade_ids, first_trade_of_account_since, lot_changes_by_trade, lot_changes_of_lot,
-    twenty_trades_of_account, twenty_trades_of_symbol, walk_account_cash_rows,
-    walk_completed_trades, walk_lots, walk_query_rows,
+    Visitor, WalkError, account_ids_of_broker, all_account_ids, all_lot_changes, all_requests,
+    brokers_with_name, completed_trade_ids, first_trade_of_account_since, lot_change_by_key,
+    lot_changes_by_trade, lot_changes_of_lot, twenty_trades_of_account, twenty_trades_of_symbol,
+    walk_account_cash_rows, walk_completed_trades, walk_lots, walk_query_rows,
 };
 pub use making::{create_desk_tables, create_later_tables};
 pub use upgrade::upgrade_tables;

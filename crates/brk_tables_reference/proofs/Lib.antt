@@ -12,6 +12,7 @@ pub mod BrokerById
 pub mod CustomerById
 pub mod CustomerByTaxId
 pub mod AccountById
+pub mod AccountsById
 pub mod AccountsOfCustomer
 pub mod PermissionByKey
 pub mod SecurityBySymbol

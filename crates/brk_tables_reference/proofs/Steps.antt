@@ -1,5 +1,5 @@
 -- The effect of the insertions of brokers, customers and accounts, and the results of their reads.
-use Rattle.std.proofs.Common.{◌≡◌, ℕ, pos, List, [], ◌∷◌, map, filter, ◌==◌, refl}
+use Rattle.std.proofs.Common.{◌≡◌, ◌∙◌, ℕ, pos, List, [], ◌∷◌, true, map, filter, ◌==◌, refl, ap}
 use Rattle.std.specs.Prelude.{bytes_eq}
 use Rattle.sqlite_value.specs.declared.value.Value.TheVariants.{Null, Int, Text as Words}
 use Rattle.sqlite_value.specs.Order.{Row}
@@ -13,6 +13,7 @@ use Rattle.brk_tables_sql.specs.Model.{ExecutesStatement}
 use Rattle.brk_tables_sql.proofs.Texts.{read}
 use Rattle.brk_tables_sql.proofs.Values.{cast_int}
 use Rattle.brk_tables_sql.proofs.Writes.{inserts_as}
+use Rattle.brk_tables_sql.proofs.Decode.{filter_true}
 use Rattle.brk_tables_sql.proofs.Told.{told_rising}
 use Rattle.brk_tables_schema.specs.Cells.{natural_as_value, broker_cells, customer_cells, account_cells}
 use Rattle.brk_tables_schema.specs.Desk.{Brokers, Customers, Accounts, desk_tables, ordering_by_primary_key}
@@ -27,6 +28,7 @@ use Rattle.brk_tables_reference.proofs.BrokerById
 use Rattle.brk_tables_reference.proofs.CustomerById
 use Rattle.brk_tables_reference.proofs.CustomerByTaxId
 use Rattle.brk_tables_reference.proofs.AccountById
+use Rattle.brk_tables_reference.proofs.AccountsById
 use Rattle.brk_tables_reference.proofs.AccountsOfCustomer
 use Rattle.brk_tables_schema.proofs.Steps.{added}
 
@@ -93,6 +95,13 @@ tells_account old new id rows shown =
     told_rising desk_tables Accounts AccountById.statement AccountById.ask AccountById.paging AccountById.is_asked (natural_as_value id ∷ [])
     (λ (r : AccountRow). r.id == id) (λ tree x. same_number x.id id)
     account_cells (λ x. refl) (ordering_by_primary_key Accounts) (key_total account_key) (λ tree x y. refl) old new rows shown (λ x y. refl)
+
+pub tells_all_accounts : (old new : State) (rows : List Row) → Shown AccountsById.statement [] old new rows → TablesSatisfy desk_tables (λ t. rows ≡ map account_cells t.accounts) old.now
+tells_all_accounts old new rows shown = λ t tree h.
+    told_rising desk_tables Accounts AccountsById.statement AccountsById.ask AccountsById.paging AccountsById.is_asked []
+    (λ _. true) (λ tree x. refl)
+    account_cells (λ x. refl) (ordering_by_primary_key Accounts) (key_total account_key) (λ tree x y. refl) old new rows shown (λ x y. refl) t tree h
+    ∙ ap (map account_cells) (filter_true t.accounts)
 
 pub tells_accounts : (old new : State) (customer : ℕ) (rows : List Row) → Shown AccountsOfCustomer.statement (natural_as_value customer ∷ []) old new rows
     → TablesSatisfy desk_tables (λ t. rows ≡ map account_cells (filter (λ r. r.customer == customer) t.accounts)) old.now

@@ -1,8 +1,8 @@
-ghost use Rattle.std.specs.Prelude.{◌≡◌, ◌==◌};
+ghost use Rattle.std.specs.Prelude.{◌≡◌, ◌==◌, map};
 ghost use Rattle.brk_ref.specs.Records.{abstract_account, abstract_account_row};
 ghost use Rattle.brk_trade_rows.specs.Changes.{tables_with_account};
 ghost use Rattle.brk_tables_schema.specs.Desk.{Accounts};
-ghost use Rattle.brk_tables_schema.specs.Statements.{ReadsFirstMatch, ReadsMatchingRows, WritesDeskTables};
+ghost use Rattle.brk_tables_schema.specs.Statements.{ReadsDeskTables, ReadsFirstMatch, ReadsMatchingRows, WritesDeskTables};
 
 use brk_money::{CallFault, Id, StoreFailed};
 use brk_ref::{Account, AccountRow};
@@ -47,6 +47,22 @@ pub fn account_by_id<S: Alter>(
         &[id_param(id)],
     )?;
     decode_first_row(&rows)
+}
+
+/// Returns all accounts, sorted by id, ascending.
+pub fn all_accounts<S: Alter>(
+    tx: &mut Transaction<'_, S>,
+    alloc: Global,
+) -> Result<Vec<AccountRow>, CallFault>
+    ensures same_reference { tx.new.conn.ghost_name ≡ tx.old.conn.ghost_name }
+    ensures step { ReadsDeskTables S.Store tx.old tx.new result (λ all t. map abstract_account_row all.items ≡ t.accounts) }
+{
+    let accounts = select_rows(
+        tx,
+        "SELECT CA_ID, CA_C_ID, CA_B_ID, CA_NAME, CA_TAX_ST, CA_OPEN, CA_BAL FROM CUSTOMER_ACCOUNT ORDER BY CA_ID",
+        &[],
+    )?;
+    decode_rows(alloc, &accounts)
 }
 
 /// Returns the accounts of a customer, sorted by id, ascending.

@@ -15,7 +15,7 @@ pub mod permissions;
 pub mod securities;
 pub mod tax_rates;
 
-pub use accounts::{account_by_id, accounts_of_customer, add_account};
+pub use accounts::{account_by_id, accounts_of_customer, add_account, all_accounts};
 pub use bands::{add_band, bands_for};
 pub use brokers::{add_broker, broker_by_id};
 pub use charges::{add_charge, charge_for};

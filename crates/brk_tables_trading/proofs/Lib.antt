@@ -4,10 +4,10 @@ pub mod AddTradeHistory
 pub mod AddRequest
 pub mod RemoveRequest
 pub mod TradeById
+pub mod TradesById
 pub mod LastTradeId
 pub mod SubmittedTrades
-pub mod RequestsAbove
-pub mod RequestsBelow
+pub mod RequestsOfSymbol
 pub mod LastTradeBySymbol
 pub mod OldestLots
 pub mod NewestLots

@@ -1,14 +1,13 @@
 -- The results of the reads of trades, requests and last trades.
 use Rattle.std.proofs.Common.{◌≡◌, ℕ, List, [], ◌∷◌, true, Some, map, filter, take, reverse, ◌==◌, refl, ap, ◌∙◌}
-use Rattle.std.specs.Prelude.{◌&&◌, bytes_eq, nat_le}
+use Rattle.std.specs.Prelude.{bytes_eq}
 use Rattle.std.proofs.lemmas.Cmp.{back_total}
 use Rattle.sqlite_value.specs.declared.value.Value.TheVariants.{Text as Words}
 use Rattle.sqlite_value.specs.Order.{Row}
 use Rattle.sqlite.specs.State.{State, Shown}
-use Rattle.brk_money.specs.Kinds.{is_same_trade_status, is_same_trade_type, trade_status_code, trade_type_code}
+use Rattle.brk_money.specs.Kinds.{is_same_trade_status, trade_status_code}
 use Rattle.brk_money.specs.declared.status.Status.{Status}
 use Rattle.brk_money.specs.declared.status.Status.TheVariants.{Completed, Active, Submitted, Pending, Canceled}
-use Rattle.brk_money.specs.declared.trade_type.TradeType.{TradeType}
 use Rattle.brk_model.specs.Tables.{TradeRow, RequestRow, LastTradeRow}
 use Rattle.brk_model.specs.Keys.{trade_key, request_key, last_trade_key}
 use Rattle.brk_tables_sql.specs.Desk.{TablesSatisfy}
@@ -17,14 +16,13 @@ use Rattle.brk_tables_sql.proofs.Decode.{filter_true}
 use Rattle.brk_tables_sql.proofs.Told.{told_rising, told_falling}
 use Rattle.brk_tables_schema.specs.Cells.{natural_as_value, trade_cells, request_cells, last_trade_cells}
 use Rattle.brk_tables_schema.specs.Desk.{Trades, Requests, LastTrades, desk_tables, ordering_by_primary_key}
-use Rattle.brk_tables_schema.proofs.Compared.{at_least, at_most}
 use Rattle.brk_tables_schema.proofs.Order.{key_total}
-use Rattle.brk_tables_schema.proofs.Tests.{same_code, same_number, same_text}
+use Rattle.brk_tables_schema.proofs.Tests.{same_number, same_text}
 use Rattle.brk_tables_trading.proofs.TradeById
+use Rattle.brk_tables_trading.proofs.TradesById
 use Rattle.brk_tables_trading.proofs.LastTradeId
 use Rattle.brk_tables_trading.proofs.SubmittedTrades
-use Rattle.brk_tables_trading.proofs.RequestsAbove
-use Rattle.brk_tables_trading.proofs.RequestsBelow
+use Rattle.brk_tables_trading.proofs.RequestsOfSymbol
 use Rattle.brk_tables_trading.proofs.LastTradeBySymbol
 
 pub tells_trade : (old new : State) (id : ℕ) (rows : List Row) → Shown TradeById.statement (natural_as_value id ∷ []) old new rows
@@ -33,6 +31,13 @@ tells_trade old new id rows shown =
     told_rising desk_tables Trades TradeById.statement TradeById.ask TradeById.paging TradeById.is_asked (natural_as_value id ∷ [])
     (λ (r : TradeRow). r.id == id) (λ tree x. same_number x.id id)
     trade_cells (λ x. refl) (ordering_by_primary_key Trades) (key_total trade_key) (λ tree x y. refl) old new rows shown (λ x y. refl)
+
+pub tells_trades : (old new : State) (rows : List Row) → Shown TradesById.statement [] old new rows → TablesSatisfy desk_tables (λ t. rows ≡ map trade_cells t.trades) old.now
+tells_trades old new rows shown = λ t tree h.
+    told_rising desk_tables Trades TradesById.statement TradesById.ask TradesById.paging TradesById.is_asked []
+    (λ _. true) (λ tree x. refl)
+    trade_cells (λ x. refl) (ordering_by_primary_key Trades) (key_total trade_key) (λ tree x y. refl) old new rows shown (λ x y. refl) t tree h
+    ∙ ap (map trade_cells) (filter_true t.trades)
 
 abbrev pub id_cells : ℕ → Row
 id_cells n = natural_as_value n ∷ []
@@ -65,20 +70,11 @@ tells_submitted old new rows shown =
     (λ (r : TradeRow). is_same_trade_status r.status Submitted) (λ tree x. rw (same_text (trade_status_code x.status) (trade_status_code Submitted), at_market x.status) refl)
     trade_cells (λ x. refl) (ordering_by_primary_key Trades) (key_total trade_key) (λ tree x y. refl) old new rows shown (λ x y. refl)
 
-pub tells_requests_above : (old new : State) (symbol : List ℕ) (kind : TradeType) (price : ℕ) (rows : List Row)
-    → Shown RequestsAbove.statement (Words symbol ∷ Words (trade_type_code kind) ∷ natural_as_value price ∷ []) old new rows
-    → TablesSatisfy desk_tables (λ t. rows ≡ map request_cells (filter (λ r. bytes_eq r.symbol symbol && (is_same_trade_type r.kind kind && nat_le price r.bid)) t.requests)) old.now
-tells_requests_above old new symbol kind price rows shown =
-    told_rising desk_tables Requests RequestsAbove.statement RequestsAbove.ask RequestsAbove.paging RequestsAbove.is_asked (Words symbol ∷ Words (trade_type_code kind) ∷ natural_as_value price ∷ [])
-    (λ (r : RequestRow). bytes_eq r.symbol symbol && (is_same_trade_type r.kind kind && nat_le price r.bid)) (λ tree x. rw (same_text x.symbol symbol, same_code x.kind kind, at_least x.bid price) refl)
-    request_cells (λ x. refl) (ordering_by_primary_key Requests) (key_total request_key) (λ tree x y. refl) old new rows shown (λ x y. refl)
-
-pub tells_requests_below : (old new : State) (symbol : List ℕ) (kind : TradeType) (price : ℕ) (rows : List Row)
-    → Shown RequestsBelow.statement (Words symbol ∷ Words (trade_type_code kind) ∷ natural_as_value price ∷ []) old new rows
-    → TablesSatisfy desk_tables (λ t. rows ≡ map request_cells (filter (λ r. bytes_eq r.symbol symbol && (is_same_trade_type r.kind kind && nat_le r.bid price)) t.requests)) old.now
-tells_requests_below old new symbol kind price rows shown =
-    told_rising desk_tables Requests RequestsBelow.statement RequestsBelow.ask RequestsBelow.paging RequestsBelow.is_asked (Words symbol ∷ Words (trade_type_code kind) ∷ natural_as_value price ∷ [])
-    (λ (r : RequestRow). bytes_eq r.symbol symbol && (is_same_trade_type r.kind kind && nat_le r.bid price)) (λ tree x. rw (same_text x.symbol symbol, same_code x.kind kind, at_most x.bid price) refl)
+pub tells_requests : (old new : State) (symbol : List ℕ) (rows : List Row) → Shown RequestsOfSymbol.statement (Words symbol ∷ []) old new rows
+    → TablesSatisfy desk_tables (λ t. rows ≡ map request_cells (filter (λ r. bytes_eq r.symbol symbol) t.requests)) old.now
+tells_requests old new symbol rows shown =
+    told_rising desk_tables Requests RequestsOfSymbol.statement RequestsOfSymbol.ask RequestsOfSymbol.paging RequestsOfSymbol.is_asked (Words symbol ∷ [])
+    (λ (r : RequestRow). bytes_eq r.symbol symbol) (λ tree x. same_text x.symbol symbol)
     request_cells (λ x. refl) (ordering_by_primary_key Requests) (key_total request_key) (λ tree x y. refl) old new rows shown (λ x y. refl)
 
 pub tells_last_trade : (old new : State) (symbol : List ℕ) (rows : List Row) → Shown LastTradeBySymbol.statement (Words symbol ∷ []) old new rows

@@ -4,9 +4,9 @@ use Rattle.brk_money.specs.Spelling.{Text}
 use Rattle.brk_model.specs.Tables.{Tables, HoldingRow}
 use Rattle.brk_ref.specs.Rows.{lots_oldest_first}
 
--- The greatest number of rows of a page: 16.
+-- The greatest number of rows of a page: 4.
 abbrev pub page_size : ℕ
-page_size = 16
+page_size = 4
 
 -- The elements of `xs` after the first `skipped`, at most `page_size` of them.
 abbrev pub page_after_skipped : {X : Type 0} → ℕ → List X → List X

@@ -24,7 +24,7 @@ fn skip_parameter<'a>(skipped: u32) -> ValueRef<'a>
     ValueRef::Int(skipped as i64)
 }
 
-/// Returns the next lots of an account in a security after the first `skipped`, at most 16, sorted
+/// Returns the next lots of an account in a security after the first `skipped`, at most 4, sorted
 /// by the stamp of their opening and then by the id of the trade that opened them, both ascending.
 pub fn oldest_lots<S: Alter>(
     tx: &mut Transaction<'_, S>,
@@ -39,7 +39,7 @@ pub fn oldest_lots<S: Alter>(
 {
     let rows = select_rows(
         tx,
-        "SELECT H_T_ID, H_CA_ID, H_S_SYMB, H_DTS, H_PRICE, H_QTY FROM HOLDING WHERE H_CA_ID = ?1 AND H_S_SYMB = ?2 ORDER BY H_DTS, H_T_ID LIMIT 16 OFFSET ?3",
+        "SELECT H_T_ID, H_CA_ID, H_S_SYMB, H_DTS, H_PRICE, H_QTY FROM HOLDING WHERE H_CA_ID = ?1 AND H_S_SYMB = ?2 ORDER BY H_DTS, H_T_ID LIMIT 4 OFFSET ?3",
         &[
             id_param(account),
             text_param(symbol.as_str()),
@@ -49,7 +49,7 @@ pub fn oldest_lots<S: Alter>(
     decode_rows(alloc, &rows)
 }
 
-/// Returns the next lots of an account in a security after the first `skipped`, at most 16, in the
+/// Returns the next lots of an account in a security after the first `skipped`, at most 4, in the
 /// reverse of the order of `oldest_lots`.
 pub fn newest_lots<S: Alter>(
     tx: &mut Transaction<'_, S>,
@@ -66,7 +66,7 @@ pub fn newest_lots<S: Alter>(
         tx,
         "SELECT H_T_ID, H_CA_ID, H_S_SYMB, H_DTS, H_PRICE, H_QTY \
          FROM HOLDING \
-         WHERE H_CA_ID = ?1 AND H_S_SYMB = ?2 ORDER BY H_DTS DESC, H_T_ID DESC LIMIT 16 OFFSET ?3",
+         WHERE H_CA_ID = ?1 AND H_S_SYMB = ?2 ORDER BY H_DTS DESC, H_T_ID DESC LIMIT 4 OFFSET ?3",
         &[
             id_param(account),
             text_param(symbol.as_str()),

@@ -31,12 +31,13 @@ pub use holdings::{
 };
 pub use last_trades::{last_trade_by_symbol, set_last_trade};
 pub use lots::{add_lot, add_lot_change, remove_lot, set_lot_quantity};
-pub use requests::{add_request, remove_request, requests_at_least, requests_at_most};
+pub use requests::{add_request, remove_request, requests_of_symbol};
 pub use settlements::add_settlement;
 pub use summaries::{add_holding_summary, remove_holding_summary, set_summary_quantity};
 pub use trade_lists::{history_of_trade, last_fifty_trades, last_ten_trades};
 pub use trades::{
-    add_trade, complete_trade, greatest_trade_id, set_trade_status, submitted_trades, trade_by_id,
+    add_trade, all_trades, complete_trade, greatest_trade_id, set_trade_status, submitted_trades,
+    trade_by_id,
 };
 pub use updates::{
     set_cash_type, set_executor, settlement_by_trade, twenty_completed_cash_trades,

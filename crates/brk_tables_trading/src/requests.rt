@@ -1,13 +1,12 @@
 //! The requests of pending trades (TRADE_REQUEST).
 
-ghost use Rattle.std.specs.Prelude.{◌≡◌, ◌&&◌, bytes_eq, nat_le};
-ghost use Rattle.brk_money.specs.Kinds.{is_same_trade_type};
+ghost use Rattle.std.specs.Prelude.{◌≡◌, bytes_eq};
 ghost use Rattle.brk_trade_rows.specs.Changes.{tables_with_request, tables_without_request};
 ghost use Rattle.brk_ref.specs.Rows.{abstract_request_row};
 ghost use Rattle.brk_tables_schema.specs.Desk.{Requests};
 ghost use Rattle.brk_tables_schema.specs.Statements.{ReadsMatchingRows, WritesDeskTables};
 
-use brk_money::{CallFault, Id, Price, StoreFailed, TradeType};
+use brk_money::{CallFault, Id, StoreFailed};
 use brk_ref::{RequestRow, Symbol};
 use brk_tables_schema::calls::{execute_statement, select_rows};
 use brk_tables_schema::record::decode_rows;
@@ -48,56 +47,20 @@ pub fn remove_request<S: Alter>(tx: &mut Transaction<'_, S>, trade: Id) -> Resul
     )
 }
 
-/// Returns the requests of a symbol and a trade type whose bid is at least `price`, sorted by the
-/// id of the trade, ascending.
-pub fn requests_at_least<S: Alter>(
+/// Returns the requests of a symbol, sorted by the id of the trade, ascending.
+pub fn requests_of_symbol<S: Alter>(
     tx: &mut Transaction<'_, S>,
     alloc: Global,
     symbol: &Symbol,
-    kind: TradeType,
-    price: Price,
 ) -> Result<Vec<RequestRow>, CallFault>
     ensures same_reference { tx.new.conn.ghost_name ≡ tx.old.conn.ghost_name }
-    ensures step { ReadsMatchingRows S.Store tx.old tx.new result Requests abstract_request_row (λ r. bytes_eq r.symbol symbol.now
-        && (is_same_trade_type r.kind kind && nat_le price r.bid)) }
+    ensures step { ReadsMatchingRows S.Store tx.old tx.new result Requests abstract_request_row (λ r. bytes_eq r.symbol symbol.now) }
 {
     let rows = select_rows(
         tx,
         "SELECT TR_T_ID, TR_TT_ID, TR_S_SYMB, TR_QTY, TR_BID_PRICE, TR_B_ID \
-         FROM TRADE_REQUEST \
-         WHERE TR_S_SYMB = ?1 AND TR_TT_ID = ?2 AND TR_BID_PRICE >= ?3 ORDER BY TR_T_ID",
-        &[
-            text_param(symbol.as_str()),
-            trade_type_param(kind),
-            price_param(price),
-        ],
-    )?;
-    decode_rows(alloc, &rows)
-}
-
-/// Returns the requests of a symbol and a trade type whose bid is at most `price`, sorted by the id
-/// of the trade, ascending.
-pub fn requests_at_most<S: Alter>(
-    tx: &mut Transaction<'_, S>,
-    alloc: Global,
-    symbol: &Symbol,
-    kind: TradeType,
-    price: Price,
-) -> Result<Vec<RequestRow>, CallFault>
-    ensures same_reference { tx.new.conn.ghost_name ≡ tx.old.conn.ghost_name }
-    ensures step { ReadsMatchingRows S.Store tx.old tx.new result Requests abstract_request_row (λ r. bytes_eq r.symbol symbol.now
-        && (is_same_trade_type r.kind kind && nat_le r.bid price)) }
-{
-    let rows = select_rows(
-        tx,
-        "SELECT TR_T_ID, TR_TT_ID, TR_S_SYMB, TR_QTY, TR_BID_PRICE, TR_B_ID \
-         FROM TRADE_REQUEST \
-         WHERE TR_S_SYMB = ?1 AND TR_TT_ID = ?2 AND TR_BID_PRICE <= ?3 ORDER BY TR_T_ID",
-        &[
-            text_param(symbol.as_str()),
-            trade_type_param(kind),
-            price_param(price),
-        ],
+         FROM TRADE_REQUEST WHERE TR_S_SYMB = ?1 ORDER BY TR_T_ID",
+        &[text_param(symbol.as_str())],
     )?;
     decode_rows(alloc, &rows)
 }

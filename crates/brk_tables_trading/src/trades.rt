@@ -1,7 +1,7 @@
-//! Trades (TRADE): their writes, and the reads by id and of submitted trades; the reads for views
-//! are in `trade_lists`, those for text updates in `updates`.
+//! Trades (TRADE): their writes, and the reads by id, of all and of submitted trades; the reads for
+//! views are in `trade_lists`, those for text updates in `updates`.
 
-ghost use Rattle.std.specs.Prelude.{◌≡◌, ◌==◌, option_map, reverse, slice_get};
+ghost use Rattle.std.specs.Prelude.{◌≡◌, ◌==◌, map, option_map, reverse, slice_get};
 ghost use Rattle.brk_money.specs.Kinds.{is_same_trade_status};
 ghost use Rattle.brk_money.specs.declared.status.Status.TheVariants.{Submitted};
 ghost use Rattle.brk_trade_rows.specs.Changes.{tables_with_trade_completed, tables_with_trade_status, tables_with_trade};
@@ -110,6 +110,24 @@ pub fn trade_by_id<S: Alter>(
         &[id_param(id)],
     )?;
     decode_first_row(&rows)
+}
+
+/// Returns all trades, sorted by id, ascending.
+pub fn all_trades<S: Alter>(
+    tx: &mut Transaction<'_, S>,
+    alloc: Global,
+) -> Result<Vec<TradeRow>, CallFault>
+    ensures same_reference { tx.new.conn.ghost_name ≡ tx.old.conn.ghost_name }
+    ensures step { ReadsDeskTables S.Store tx.old tx.new result (λ all t. map abstract_trade_row all.items ≡ t.trades) }
+{
+    let rows = select_rows(
+        tx,
+        "SELECT T_ID, T_DTS, T_ST_ID, T_TT_ID, T_IS_CASH, T_S_SYMB, T_QTY, T_BID_PRICE, T_CA_ID, \
+         T_EXEC_NAME, T_TRADE_PRICE, T_CHRG, T_COMM, T_TAX, T_LIFO \
+         FROM TRADE ORDER BY T_ID",
+        &[],
+    )?;
+    decode_rows(alloc, &rows)
 }
 
 pub fn greatest_trade_id<S: Alter>(tx: &mut Transaction<'_, S>) -> Result<Option<Id>, StoreFailed>

@@ -1,5 +1,5 @@
 -- The results of the reads of ids alone.
-use Rattle.std.proofs.Common.{◌≡◌, ◌∙◌, ℕ, List, [], ◌∷◌, Bool, ◌&&◌, ◌==◌, map, filter, refl, sym, ap}
+use Rattle.std.proofs.Common.{◌≡◌, ◌∙◌, ℕ, List, [], ◌∷◌, Bool, true, ◌&&◌, ◌==◌, map, filter, refl, sym, ap}
 use Rattle.std.specs.Prelude.{bytes_eq}
 use Rattle.sqlite_value.specs.declared.value.Value.TheVariants.{Text as Words}
 use Rattle.sqlite_value.specs.Order.{Row, value_cmp}
@@ -11,11 +11,13 @@ use Rattle.brk_model.specs.Joins.{trade_rows_oldest_first}
 use Rattle.brk_model.specs.Keys.{account_key}
 use Rattle.brk_model.specs.Tables.{AccountRow, TradeRow}
 use Rattle.brk_tables_sql.specs.Desk.{TablesSatisfy}
+use Rattle.brk_tables_sql.proofs.Decode.{filter_true}
 use Rattle.brk_tables_sql.proofs.Told.{told_rising, told_sorted}
 use Rattle.brk_tables_schema.specs.Cells.{natural_as_value}
 use Rattle.brk_tables_schema.specs.Desk.{Accounts, Trades, desk_tables, ordering_by_primary_key}
 use Rattle.brk_tables_schema.proofs.Order.{key_total}
 use Rattle.brk_tables_schema.proofs.Tests.{same_number, same_text}
+use Rattle.brk_tables_views.proofs.AccountIds
 use Rattle.brk_tables_views.proofs.AccountsOfBroker
 use Rattle.brk_tables_views.proofs.CompletedOfHolding
 use Rattle.brk_tables_views.proofs.MomentReads.{oldest_are, rising, second, trade_age}
@@ -39,6 +41,15 @@ tells_accounts_of_broker old new broker rows shown = λ t tree h.
     (λ (r : AccountRow). r.broker == broker) (λ tree x. same_number x.broker broker)
     (λ (r : AccountRow). id_cells r.id) (λ x. refl) (ordering_by_primary_key Accounts) (key_total account_key) (λ tree x y. refl) old new rows shown (λ x y. refl) t tree h
     ∙ twice (λ (r : AccountRow). r.id) (filter (λ (r : AccountRow). r.broker == broker) t.accounts)
+
+pub tells_account_ids : (old new : State) (rows : List Row) → Shown AccountIds.statement [] old new rows
+    → TablesSatisfy desk_tables (λ t. rows ≡ map id_cells (map (λ r. r.id) t.accounts)) old.now
+tells_account_ids old new rows shown = λ t tree h.
+    told_rising desk_tables Accounts AccountIds.statement AccountIds.ask AccountIds.paging AccountIds.is_asked []
+    (λ (r : AccountRow). true) (λ tree x. refl)
+    (λ (r : AccountRow). id_cells r.id) (λ x. refl) (ordering_by_primary_key Accounts) (key_total account_key) (λ tree x y. refl) old new rows shown (λ x y. refl) t tree h
+    ∙ ap (map (λ (r : AccountRow). id_cells r.id)) (filter_true t.accounts)
+    ∙ twice (λ (r : AccountRow). r.id) t.accounts
 
 -- a code is that of what is completed where the status is
 is_done : (s : Status) → bytes_eq (trade_status_code s) (trade_status_code Completed) ≡ is_same_trade_status s Completed

@@ -1,11 +1,14 @@
 pub mod TwentyOfAccount
 pub mod TwentyOfSymbol
 pub mod FirstSince
+pub mod ChangesByKey
+pub mod ChangeByKey
 pub mod ChangesBy
 pub mod ChangesOf
 pub mod BrokersNamed
 pub mod RequestsByTrade
 pub mod AccountsOfBroker
+pub mod AccountIds
 pub mod CompletedOfHolding
 pub mod MomentReads
 pub mod ListReads

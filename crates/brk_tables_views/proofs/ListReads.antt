@@ -1,5 +1,5 @@
 -- The results of the reads of lot changes, brokers and requests.
-use Rattle.std.proofs.Common.{◌≡◌, ◌∙◌, ℕ, List, [], ◌∷◌, true, map, filter, ◌==◌, refl, ap}
+use Rattle.std.proofs.Common.{◌≡◌, ◌∙◌, ℕ, List, [], ◌∷◌, true, map, filter, ◌==◌, ◌&&◌, refl, ap}
 use Rattle.std.specs.Prelude.{bytes_eq}
 use Rattle.sqlite_value.specs.declared.value.Value.TheVariants.{Text as Words}
 use Rattle.sqlite_value.specs.Order.{Row}
@@ -14,11 +14,28 @@ use Rattle.brk_tables_schema.specs.Desk.{Brokers, HoldingHistory, Requests, desk
 use Rattle.brk_tables_schema.proofs.Order.{key_total}
 use Rattle.brk_tables_schema.proofs.Tests.{same_number, same_text}
 use Rattle.brk_tables_views.proofs.BrokersNamed
+use Rattle.brk_tables_views.proofs.ChangeByKey
 use Rattle.brk_tables_views.proofs.ChangesBy
+use Rattle.brk_tables_views.proofs.ChangesByKey
 use Rattle.brk_tables_views.proofs.ChangesOf
 use Rattle.brk_tables_views.proofs.RequestsByTrade
 
 -- ---- what trades made of lots
+
+pub tells_changes : (old new : State) (rows : List Row) → Shown ChangesByKey.statement [] old new rows
+    → TablesSatisfy desk_tables (λ t. rows ≡ map holding_history_cells t.holding_history) old.now
+tells_changes old new rows shown = λ t tree h.
+    told_rising desk_tables HoldingHistory ChangesByKey.statement ChangesByKey.ask ChangesByKey.paging ChangesByKey.is_asked []
+    (λ _. true) (λ tree x. refl)
+    holding_history_cells (λ x. refl) (ordering_by_primary_key HoldingHistory) (key_total holding_history_key) (λ tree x y. refl) old new rows shown (λ x y. refl) t tree h
+    ∙ ap (map holding_history_cells) (filter_true t.holding_history)
+
+pub tells_change : (old new : State) (lot trade : ℕ) (rows : List Row) → Shown ChangeByKey.statement (natural_as_value lot ∷ natural_as_value trade ∷ []) old new rows
+    → TablesSatisfy desk_tables (λ t. rows ≡ map holding_history_cells (filter (λ r. (r.lot == lot) && (r.trade == trade)) t.holding_history)) old.now
+tells_change old new lot trade rows shown =
+    told_rising desk_tables HoldingHistory ChangeByKey.statement ChangeByKey.ask ChangeByKey.paging ChangeByKey.is_asked (natural_as_value lot ∷ natural_as_value trade ∷ [])
+    (λ (r : HoldingHistoryRow). (r.lot == lot) && (r.trade == trade)) (λ tree x. rw (same_number x.lot lot, same_number x.trade trade) refl)
+    holding_history_cells (λ x. refl) (ordering_by_primary_key HoldingHistory) (key_total holding_history_key) (λ tree x y. refl) old new rows shown (λ x y. refl)
 
 pub tells_changes_by : (old new : State) (trade : ℕ) (rows : List Row) → Shown ChangesBy.statement (natural_as_value trade ∷ []) old new rows
     → TablesSatisfy desk_tables (λ t. rows ≡ map holding_history_cells (filter (λ r. r.trade == trade) t.holding_history)) old.now

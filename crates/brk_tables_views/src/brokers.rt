@@ -1,4 +1,5 @@
-//! Brokers by name, which several brokers may share, all requests, and the accounts of a broker.
+//! Brokers by name, which several brokers may share, all requests, and the accounts of a broker and
+//! of all brokers.
 
 ghost use Rattle.std.specs.Prelude.{◌≡◌, ◌==◌, bytes_eq, filter, map};
 ghost use Rattle.brk_ref.specs.Records.{abstract_broker_row};
@@ -61,5 +62,17 @@ pub fn account_ids_of_broker<S: Alter>(
         "SELECT CA_ID FROM CUSTOMER_ACCOUNT WHERE CA_B_ID = ?1 ORDER BY CA_ID",
         &[id_param(broker)],
     )?;
+    decode_rows(alloc, &rows)
+}
+
+/// Returns the ids of all accounts, ascending.
+pub fn all_account_ids<S: Alter>(
+    tx: &mut Transaction<'_, S>,
+    alloc: Global,
+) -> Result<Vec<Id>, CallFault>
+    ensures same_reference { tx.new.conn.ghost_name ≡ tx.old.conn.ghost_name }
+    ensures step { ReadsDeskTables S.Store tx.old tx.new result (λ all t. all.items ≡ map (λ r. r.id) t.accounts) }
+{
+    let rows = select_rows(tx, "SELECT CA_ID FROM CUSTOMER_ACCOUNT ORDER BY CA_ID", &[])?;
     decode_rows(alloc, &rows)
 }

@@ -25,11 +25,13 @@ pub mod trades_by_stamp;
 pub mod visitor;
 pub mod walking;
 
-pub use brokers::{account_ids_of_broker, all_requests, brokers_with_name};
+pub use brokers::{account_ids_of_broker, all_account_ids, all_requests, brokers_with_name};
 pub use cash_walk::walk_account_cash_rows;
 pub use closure_visitors::{ClosureVisitor, LotClosureVisitor};
 pub use holdings::completed_trade_ids;
-pub use lot_changes::{lot_changes_by_trade, lot_changes_of_lot};
+pub use lot_changes::{
+    all_lot_changes, lot_change_by_key, lot_changes_by_trade, lot_changes_of_lot,
+};
 pub use lot_walk::walk_lots;
 pub use trade_walk::walk_completed_trades;
 pub use trades_by_stamp::{

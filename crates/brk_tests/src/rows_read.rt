@@ -95,26 +95,14 @@ fn sell<S: Alter>(alloc: Global, store: &mut Store<S>, count: u32, lifo: bool) -
 type Sales = [(u32, usize, u64); 5];
 
 // Sales of a position of 40 lots, and of the same after a sale of one share, and then of 16.
-const FIRST_SALES: Sales = [
-    (1, 1, 16),
-    (16, 16, 16),
-    (17, 17, 32),
-    (40, 40, 40),
-    (41, 40, 40),
-];
+const FIRST_SALES: Sales = [(1, 1, 4), (4, 4, 4), (5, 5, 8), (40, 40, 40), (41, 40, 40)];
 
-const SECOND_SALES: Sales = [
-    (1, 1, 16),
-    (16, 16, 16),
-    (17, 17, 32),
-    (39, 39, 39),
-    (40, 39, 39),
-];
+const SECOND_SALES: Sales = [(1, 1, 4), (4, 4, 4), (5, 5, 8), (39, 39, 39), (40, 39, 39)];
 
 const THIRD_SALES: Sales = [
-    (1, 1, 16),
-    (16, 16, 16),
-    (17, 17, 23),
+    (1, 1, 4),
+    (20, 20, 20),
+    (21, 21, 23),
     (23, 23, 23),
     (24, 23, 23),
 ];
@@ -164,7 +152,7 @@ fn expect_rows_read_beside<S: Alter + Drop>(
     expect_rows_read_from_both_ends(alloc, &mut store, &THIRD_SALES)
 }
 
-/// Checks that a sale reads only the pages of at most 16 rows that contain the lots that it closes,
+/// Checks that a sale reads only the pages of at most 4 rows that contain the lots that it closes,
 /// whether it closes the oldest or the newest lots first, also after sales, and whether the desk has
 /// few lots or many.
 pub fn a_sale_reads_only_the_pages_it_needs(alloc: Global) -> Result<(), Fail> {

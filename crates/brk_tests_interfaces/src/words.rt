@@ -1,5 +1,5 @@
 use brk_cli_args::{Job, UsageFault, read_words};
-use brk_money::Stamp;
+use brk_money::{Id, Stamp};
 use brk_tests_unit::expect::expect;
 use std::alloc::{AllocError, Global};
 use std::test::Fail;
@@ -17,6 +17,14 @@ fn millis_or_minus_one(at: Option<Stamp>) -> i64 {
     }
 }
 
+// Returns the number of an id, or 0 if there is none.
+fn number_or_zero(id: Option<Id>) -> u64 {
+    match id {
+        Some(id) => id.get(),
+        None => 0,
+    }
+}
+
 // Appends a space and a word to the text, for each word, and returns the text. Fails only if memory
 // runs out.
 fn append_words(mut text: String, words: &[String]) -> Result<String, AllocError> {
@@ -29,8 +37,9 @@ fn append_words(mut text: String, words: &[String]) -> Result<String, AllocError
 
 // Returns the name of a job and its values, in the order of its fields, as text, separated by
 // spaces: a path, or `-` if it is optional and there is none; timestamps in milliseconds since
-// 1970-01-01 UTC, or -1 if there is none; days as numbers of days since 1970-01-01; flags as `true`
-// or `false`; other numbers and words as they are. Fails only if memory runs out.
+// 1970-01-01 UTC, or -1 if there is none; days as numbers of days since 1970-01-01; a customer by its
+// id, or 0 if there is none; flags as `true` or `false`; other numbers and words as they are. Fails
+// only if memory runs out.
 fn format_job(alloc: Global, job: &Job) -> Result<String, AllocError> {
     match job {
         Job::Batch { db, at } => format!(in alloc;
@@ -46,6 +55,15 @@ fn format_job(alloc: Global, job: &Job) -> Result<String, AllocError> {
         } => {
             let (account, from, to) = (account.get(), from.get(), to.get());
             format!(in alloc; "statement {db} {account} {from} {to}")
+        }
+        Job::Statements {
+            db,
+            from,
+            to,
+            customer,
+        } => {
+            let (from, to, customer) = (from.get(), to.get(), number_or_zero(*customer));
+            format!(in alloc; "statements {db} {from} {to} {customer}")
         }
         Job::Ask {
             db,
@@ -137,7 +155,7 @@ fn expect_parsed_command_line(alloc: Global, line: &str, wanted: &[&str]) -> Res
 }
 
 // Command lines, each with the text of the job that it requests, or with `day`.
-const JOBS: [(&str, &str); 18] = [
+const JOBS: [(&str, &str); 21] = [
     ("brk|batch", "batch - -1"),
     ("brk|batch|--db|a b.db", "batch a b.db -1"),
     ("brk|batch|--at|0", "batch - 0"),
@@ -152,6 +170,14 @@ const JOBS: [(&str, &str); 18] = [
     (
         "brk|statement|--to|1970-01-01|--from|9999-12-31|--account|1000000000000|--db|a",
         "statement a 1000000000000 2932896 0",
+    ),
+    (
+        "brk|statements|--db|a.db|--from|2024-03-01|--to|2024-03-31",
+        "statements a.db 19783 19813 0",
+    ),
+    (
+        "brk|statements|--customer|1000000000000|--to|1970-01-01|--from|9999-12-31|--db|a",
+        "statements a 2932896 0 1000000000000",
     ),
     (
         "brk|ask|--db|a.db|--heads|customer|10",
@@ -187,6 +213,10 @@ const JOBS: [(&str, &str); 18] = [
     ),
     (
         "brk|statement|--db|a|--account|1|--from|2024-03-01|--to|1.3.2024",
+        "day",
+    ),
+    (
+        "brk|statements|--db|a|--from|2024-03-01|--to|2024-03-00",
         "day",
     ),
 ];

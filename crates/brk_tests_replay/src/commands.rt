@@ -15,7 +15,8 @@ use brk_http::serve_stream;
 use brk_import::{Clock, FaultKind, run_batch};
 use brk_money::{Fault, Refusal, Stamp, parse_day};
 use brk_ref::{parse_id, parse_stamp};
-use brk_report::{ReportFault, statement};
+use brk_report::statements::several::statements;
+use brk_report::{ReportFault, StatementFault, statement};
 use brk_store::Store;
 use sqlite::{Connection, MemStore};
 use std::alloc::{AllocError, Global};
@@ -196,11 +197,42 @@ fn execute_statement_command(
     let mut lines = Vec::new(alloc);
     let ended = statement(alloc, desk, account, from, to, &mut lines);
     append_escaped_output_lines(out, &lines)?;
+    append_ending_of_statement(out, ended)
+}
+
+fn append_ending_of_statement(
+    out: &mut String,
+    ended: Result<(), StatementFault>,
+) -> Result<(), OutOfMemory> {
     match ended {
         Ok(()) => Ok(()),
         Err(ReportFault::Refused(refusal)) => append_refusal_line(out, refusal),
         Err(_) => append_output_line(out, "! fault"),
     }
+}
+
+// Writes the statements of all accounts, or of those of a customer: `words` contains the first and
+// the last day, both included, and the id of the customer or nothing, separated by single spaces.
+// Appends as `execute_statement_command` does.
+fn execute_statements_command(
+    alloc: Global,
+    out: &mut String,
+    desk: &mut Desk<MemStore>,
+    words: &str,
+) -> Result<(), OutOfMemory> {
+    let (from, rest) = words.split_once(' ').unwrap_or((words, ""));
+    let (to, customer) = rest.split_once(' ').unwrap_or((rest, ""));
+    let customer_id = parse_id(customer.as_bytes());
+    if customer_id.is_none() && !customer.is_empty() {
+        return append_refusal_line(out, Refusal::BadText);
+    }
+    let (Some(from), Some(to)) = (parse_day(from.as_bytes()), parse_day(to.as_bytes())) else {
+        return append_refusal_line(out, Refusal::BadText);
+    };
+    let mut lines = Vec::new(alloc);
+    let ended = statements(alloc, desk, customer_id, from, to, &mut lines);
+    append_escaped_output_lines(out, &lines)?;
+    append_ending_of_statement(out, ended)
 }
 
 // Writes the explanation that `words`, split at each space, requests (`parse_explain`).
@@ -376,6 +408,7 @@ fn execute_desk_command(
         "ask" => execute_ask_command(alloc, out, desk, words, pieces),
         "print" => execute_print_command(alloc, out, desk, words, pieces),
         "statement" => execute_statement_command(alloc, out, desk, words),
+        "statements" => execute_statements_command(alloc, out, desk, words),
         "explain" => execute_explain_command(alloc, out, desk, words),
         _ => append_output_line(out, "! no such command"),
     }

@@ -111,6 +111,20 @@ fn expect_jobs(alloc: Global) -> Result<(), Fail> {
         }
         _ => Err("no statement")?,
     }
+    let line = "brk|statements|--db|a.db|--from|2024-03-01|--to|2024-03-31|--customer|10";
+    match job_of_line(alloc, line)? {
+        Job::Statements {
+            db,
+            from,
+            to,
+            customer,
+        } => {
+            expect_text(db.as_str(), "a.db")?;
+            expect_equal((from.get(), to.get()), (19_783, 19_813))?;
+            expect_equal(customer.ok_or("no customer")?.get(), 10)?;
+        }
+        _ => Err("no statements")?,
+    }
     match job_of_line(alloc, "brk|audit|--db|a.db")? {
         Job::Audit { db } => expect_text(db.as_str(), "a.db")?,
         _ => Err("no audit")?,

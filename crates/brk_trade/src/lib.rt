@@ -17,7 +17,7 @@ pub use brk_ref::{
 };
 pub use brk_trade_plans::{
     CashText, Completed, Estimate, MovementPlanFacts, Ordered, Plan, PriceSpan, Quote, Reference,
-    ReferenceFacts, Reply, SettlementText, TextUpdate, create_quote, first_symbol_price_span,
+    ReferenceFacts, Reply, SettlementText, TextUpdate, first_symbol_price_span,
     has_no_quote_of_symbol, is_triggered_at_price, plan_cancel, plan_feed, plan_move, plan_oneday,
     plan_reference, plan_update,
 };

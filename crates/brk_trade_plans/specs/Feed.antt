@@ -1,11 +1,13 @@
 -- Market feeds: the checks and row changes of their ticks, and the trades that they trigger.
-use Rattle.std.specs.Prelude.{◌≡◌, ℕ, ◌+◌, Bool, if◌then◌else◌, not, nat_lt, List, [], ◌∷◌, ◌++◌, map, filter, flat_map, fold, bytes_eq, Option, None, Some}
+use Rattle.std.specs.Prelude.{◌≡◌, ℕ, ◌+◌, Bool, false, if◌then◌else◌, not, nat_le, nat_lt, List, [], ◌∷◌, ◌++◌, map, filter, flat_map, fold, bytes_eq, Option, None, Some}
 use Rattle.std.specs.List.{list_any}
 use Rattle.brk_money.specs.Moments.{stamp_after}
 use Rattle.brk_money.specs.Spelling.{Text}
 use Rattle.brk_money.specs.declared.refusal.Limit.TheVariants as limit
 use Rattle.brk_money.specs.declared.refusal.Refusal.TheVariants.{NoSecurity, Range}
 use Rattle.brk_money.specs.declared.status.Status.TheVariants.{Submitted}
+use Rattle.brk_money.specs.declared.trade_type.TradeType.{TradeType}
+use Rattle.brk_money.specs.declared.trade_type.TradeType.TheVariants.{MarketBuy, MarketSell, StopLoss, LimitSell, LimitBuy}
 use Rattle.brk_model.specs.Feed.{is_triggering_price}
 use Rattle.brk_model.specs.Limits.{greatest_amount}
 use Rattle.brk_model.specs.Lists.{update_where}
@@ -54,6 +56,15 @@ span_including_tick symbol span tick = if bytes_eq tick.symbol symbol then span_
 -- The lowest and highest price, in cents, of `first` and the ticks in `others` with its symbol.
 abbrev pub price_span_of_first_symbol : Tick → List Tick → PriceSpan
 price_span_of_first_symbol first others = fold (span_including_tick first.symbol) (record { lowest = first.price; highest = first.price }) others
+
+-- True if a price of the span can trigger a request of this type at `bid` cents: for stop loss and
+-- limit buy the lowest is at most `bid`, for limit sell the highest at least; never a market type.
+abbrev pub is_request_triggered_in_span : PriceSpan → TradeType → ℕ → Bool
+is_request_triggered_in_span span StopLoss bid = nat_le span.lowest bid
+is_request_triggered_in_span span LimitSell bid = nat_le bid span.highest
+is_request_triggered_in_span span LimitBuy bid = nat_le span.lowest bid
+is_request_triggered_in_span span MarketBuy bid = false
+is_request_triggered_in_span span MarketSell bid = false
 
 -- True if a market price of `price` cents triggers the pending trade of `request`.
 abbrev pub is_request_triggered : ℕ → RequestRow → Bool

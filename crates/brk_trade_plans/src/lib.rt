@@ -25,7 +25,7 @@ pub use feed::{has_no_quote_of_symbol, is_triggered_at_price, plan_feed};
 pub use movement::{MovementPlanFacts, add_within_balance_limit, plan_move};
 pub use one_day::plan_oneday;
 pub use plan::Plan;
-pub use quote::{Quote, create_quote};
+pub use quote::Quote;
 pub use reference::{Reference, ReferenceFacts, plan_reference};
 pub use reply::{Completed, Ordered, Reply};
 pub use span::{PriceSpan, first_symbol_price_span};

@@ -1,9 +1,9 @@
-//! The lowest and the highest price of the ticks of a symbol.
+//! The lowest and the highest price of the ticks of a symbol, and what they can trigger.
 
 ghost use Rattle.std.specs.Prelude.{◌≡◌};
 ghost use Rattle.brk_trade_plans.specs.Feed as spec;
 
-use brk_money::Price;
+use brk_money::{Price, TradeType};
 use brk_ref_orders::Tick;
 
 /// The lowest and the highest of some prices, in cents.
@@ -11,6 +11,21 @@ use brk_ref_orders::Tick;
 pub struct PriceSpan {
     pub lowest: Price,
     pub highest: Price,
+}
+
+impl PriceSpan {
+    /// Returns true if a market price of the span can trigger a pending trade: a stop loss or a
+    /// limit buy if the lowest is at most its bid, a limit sell if the highest is at least its bid,
+    /// a market type never.
+    pub fn can_trigger(self, kind: TradeType, bid: Price) -> bool
+        ensures { result ≡ spec.is_request_triggered_in_span self kind bid }
+    {
+        match kind {
+            TradeType::StopLoss | TradeType::LimitBuy => self.lowest.get() <= bid.get(),
+            TradeType::LimitSell => bid.get() <= self.highest.get(),
+            TradeType::MarketBuy | TradeType::MarketSell => false,
+        }
+    }
 }
 
 fn widen_span(span: PriceSpan, price: Price) -> PriceSpan

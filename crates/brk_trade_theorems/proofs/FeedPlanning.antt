@@ -65,7 +65,7 @@ same_unknown t ticks quotes k d quoted = each ticks quoted
 -- quotes that were read of a base in order are held
 held_quotes : (base : Base) (ticks : List Tick) (quotes : List SymbolState) (last : Option ℕ) (now : ℕ) → PlanFeedPrecondition base ticks quotes last now
     → AllByRecursion (IsHeld (sheets base) ticks) quotes
-held_quotes base ticks quotes last now k = All-map quotes (λ quote q. is_held base ticks quote k.books q) k.quotes_read.read
+held_quotes base ticks quotes last now k = All-map quotes (λ quote q. is_held (sheets base) ticks quote q) k.quotes_read.read
 
 known_quotes : (ticks : List Tick) (quotes : List SymbolState) → list_any (has_no_state_of_symbol quotes) ticks ≡ false → HaveQuotes quotes ticks
 known_quotes ticks quotes e = All-map ticks (λ tick n. not_not (list_any (is_state_of_symbol tick.symbol) quotes) n) (any-none (has_no_state_of_symbol quotes) ticks e)

@@ -3,27 +3,21 @@ use Rattle.std.proofs.Common.{◌≡◌, Bool, true, false, List, [], ◌∷◌,
 use Rattle.std.specs.Prelude.{◌||◌, find, is_some, bytes_eq}
 use Rattle.std.specs.Option.{option_map_or}
 use Rattle.std.specs.List.{AllByRecursion, Contains, list_any}
-use Rattle.std.specs.List.Sorted.{IsNonDecreasingBy, IsPermutation}
 use Rattle.brk_money.specs.Spelling.{Text}
-use Rattle.brk_model.specs.Base.{Base}
-use Rattle.brk_model.specs.Sheets.{sheets}
-use Rattle.brk_model.specs.Tables.{Tables, LastTradeRow, RequestRow}
+use Rattle.brk_model.specs.Tables.{Tables, LastTradeRow}
 use Rattle.brk_ref_orders.specs.declared.tick.Tick.{Tick}
 use Rattle.brk_ref.specs.Records.{abstract_last_trade_row}
 use Rattle.brk_trade_plans.specs.Feed.{SymbolState, states_of_quotes, state_of_quote, is_state_of_symbol, price_span_of_first_symbol}
 use Rattle.brk_ref.specs.Rows.{abstract_request_row}
-use Rattle.brk_ref.specs.declared.request_row.RequestRow as request
 use Rattle.brk_trade_plans.specs.declared.quote.Quote.{Quote}
 use Rattle.brk_trade_plans.specs.declared.span.PriceSpan.{PriceSpan}
-use Rattle.brk_trade_books.specs.Books.{BooksInvariant}
 use Rattle.brk_trade_books.specs.TradeReads.{last_trade_row_of_symbol, requests_of_symbol, volume_of_symbol}
 use Rattle.brk_trade_theorems.specs.TradePlans.{AreQuotesOfTicks, IsQuoteOfTick, IsQuoteOfSomeTick, HasQuoteIfSymbolHasLastTrade, HasDistinctQuoteSymbols}
 use Rattle.brk_trade_books.proofs.Bools.{same_text, texts_back}
 use Rattle.brk_trade_books.proofs.Same.{NonePass, All-append, All-map, any-none, filter-none, find-All, map-last}
 use Rattle.brk_trade_books.proofs.Places.{FoundAt, filter-one, find-at, some_of}
 use Rattle.brk_trade_books.proofs.Reading.{some-is-any}
-use Rattle.brk_trade_books.proofs.Orders.{ascends, ascends_map}
-use Rattle.brk_trade_theorems.proofs.Waiting.{Spans, in_order, may, span_spans}
+use Rattle.brk_trade_theorems.proofs.Waiting.{Spans, may, span_spans}
 
 -- ---- tests
 
@@ -53,10 +47,9 @@ pub record IsHeld (t : Tables) (ticks : List Tick) (quote : SymbolState) : Type 
   pub spans : Spans span quote.last.symbol ticks
   pub requests : map abstract_request_row quote.requests ≡ filter (may span) (requests_of_symbol t quote.last.symbol)
 
--- a quote that was read of a base in order is held
-pub is_held : (base : Base) (ticks : List Tick) (quote : SymbolState) → BooksInvariant base → IsQuoteOfSomeTick (sheets base) ticks quote → IsHeld (sheets base) ticks quote
-is_held base ticks quote books k =
-    let t = sheets base in
+-- a quote that was read is held
+pub is_held : (t : Tables) (ticks : List Tick) (quote : SymbolState) → IsQuoteOfSomeTick t ticks quote → IsHeld t ticks quote
+is_held t ticks quote k =
     let is = k.is in
     let span = price_span_of_first_symbol k.tick ticks in
     let back = sym is.symbol in
@@ -64,9 +57,7 @@ is_held base ticks quote books k =
       last_trade = ap (last_trade_row_of_symbol t) is.symbol ∙ is.last_trade;
       span = span;
       spans = subst (λ s. Spans span s ticks) back (span_spans k.tick ticks);
-      requests = in_order base k.tick.symbol span (map abstract_request_row quote.requests) books is.requests
-          (ascends_map (λ (r : RequestRow). r.trade) abstract_request_row quote.requests (ascends (λ (r : request.RequestRow). r.trade) quote.requests is.order))
-          ∙ ap (λ s. filter (may span) (requests_of_symbol t s)) back;
+      requests = is.requests ∙ ap (λ s. filter (may span) (requests_of_symbol t s)) back;
     }
 
 -- the one quote of a symbol, and it is what stands in the tables of it
@@ -144,10 +135,9 @@ listed t symbol quote l =
 
 -- what was read for a tick is its quote
 pub read_quote : (t : Tables) (all : List Tick) (tick : Tick) (quote : SymbolState) → last_trade_row_of_symbol t tick.symbol ≡ Some (abstract_last_trade_row quote.last)
-    → IsPermutation (filter (may (price_span_of_first_symbol tick all)) (requests_of_symbol t tick.symbol)) (map abstract_request_row quote.requests)
-    → IsNonDecreasingBy (λ (r : request.RequestRow). r.trade) quote.requests
+    → map abstract_request_row quote.requests ≡ filter (may (price_span_of_first_symbol tick all)) (requests_of_symbol t tick.symbol)
     → IsQuoteOfTick t tick all quote
-read_quote t all tick quote l p o = record { symbol = same_text quote.last.symbol tick.symbol (listed t tick.symbol quote l); last_trade = l; requests = p; order = o }
+read_quote t all tick quote l e = record { symbol = same_text quote.last.symbol tick.symbol (listed t tick.symbol quote l); last_trade = l; requests = e }
 
 -- a quote more, of a symbol that had none
 one_more : (t : Tables) (all ticks : List Tick) (tick : Tick) (quotes : List SymbolState) (quote : SymbolState) → AreQuotesOfTicks t all ticks quotes

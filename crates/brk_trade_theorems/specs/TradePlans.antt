@@ -1,20 +1,15 @@
 -- The preconditions of planning a cancel or a feed: the facts that are read from the tables.
-use Rattle.std.specs.Prelude.{◌≡◌, ◌≤◌, ⊤, ℕ, Bool, true, false, is_some, nat_le, List, [], ◌∷◌, filter, map, Option, Some, option_map}
+use Rattle.std.specs.Prelude.{◌≡◌, ◌≤◌, ⊤, ℕ, true, false, is_some, List, [], ◌∷◌, filter, map, Option, Some, option_map}
 use Rattle.std.specs.List.{AllByRecursion, Contains, list_any}
-use Rattle.std.specs.List.Sorted.{IsNonDecreasingBy, IsPermutation}
 use Rattle.brk_money.specs.Moments.{greatest_stamp}
 use Rattle.brk_money.specs.declared.status.Status.{Status}
-use Rattle.brk_money.specs.declared.trade_type.TradeType.{TradeType}
-use Rattle.brk_money.specs.declared.trade_type.TradeType.TheVariants.{MarketBuy, MarketSell, StopLoss, LimitSell, LimitBuy}
 use Rattle.brk_model.specs.Base.{Base}
 use Rattle.brk_model.specs.Joins.{trade_row_with_id}
 use Rattle.brk_model.specs.Sheets.{sheets}
 use Rattle.brk_model.specs.Tables.{Tables}
 use Rattle.brk_ref_orders.specs.declared.tick.Tick.{Tick}
 use Rattle.brk_ref.specs.Records.{abstract_last_trade_row}
-use Rattle.brk_trade_plans.specs.Feed.{SymbolState, is_state_of_symbol, price_span_of_first_symbol}
-use Rattle.brk_trade_plans.specs.declared.span.PriceSpan.{PriceSpan}
-use Rattle.brk_ref.specs.declared.request_row.RequestRow as request
+use Rattle.brk_trade_plans.specs.Feed.{SymbolState, is_request_triggered_in_span, is_state_of_symbol, price_span_of_first_symbol}
 use Rattle.brk_ref.specs.Rows.{abstract_request_row}
 use Rattle.brk_trade_books.specs.Books.{BooksInvariant}
 use Rattle.brk_trade_books.specs.TradeReads.{last_trade_row_of_symbol, requests_of_symbol}
@@ -31,25 +26,14 @@ pub record PlanCancelPrecondition (base : Base) (id : ℕ) (found : Option Statu
 
 -- ---- a feed
 
--- True if a price of the span can trigger a request of this type at `bid` cents: for stop loss and
--- limit buy the lowest is at most `bid`, for limit sell the highest at least; never a market type.
-abbrev pub is_request_triggered_in_span : PriceSpan → TradeType → ℕ → Bool
-is_request_triggered_in_span span StopLoss bid = nat_le span.lowest bid
-is_request_triggered_in_span span LimitSell bid = nat_le bid span.highest
-is_request_triggered_in_span span LimitBuy bid = nat_le span.lowest bid
-is_request_triggered_in_span span MarketBuy bid = false
-is_request_triggered_in_span span MarketSell bid = false
-
 -- The quote has the row of LAST_TRADE of the tick's symbol in the tables. Its requests are exactly
 -- those requests of the symbol that a price from the lowest to the highest price of `tick` and of
--- the symbol's ticks in `ticks` can trigger, sorted by trade, ascending.
+-- the symbol's ticks in `ticks` can trigger, in the sequence of the table.
 pub record IsQuoteOfTick (t : Tables) (tick : Tick) (ticks : List Tick) (quote : SymbolState) : Type 0 where
   pub symbol : quote.last.symbol ≡ tick.symbol
   pub last_trade : last_trade_row_of_symbol t tick.symbol ≡ Some (abstract_last_trade_row quote.last)
-  pub requests : IsPermutation
-      (filter (λ r. is_request_triggered_in_span (price_span_of_first_symbol tick ticks) r.kind r.bid) (requests_of_symbol t tick.symbol))
-      (map abstract_request_row quote.requests)
-  pub order : IsNonDecreasingBy (λ (r : request.RequestRow). r.trade) quote.requests
+  pub requests : map abstract_request_row quote.requests
+      ≡ filter (λ r. is_request_triggered_in_span (price_span_of_first_symbol tick ticks) r.kind r.bid) (requests_of_symbol t tick.symbol)
 
 -- The quote is the quote of at least one of `ticks` (`IsQuoteOfTick`).
 pub record IsQuoteOfSomeTick (t : Tables) (ticks : List Tick) (quote : SymbolState) : Type 0 where

@@ -2,7 +2,7 @@ use Rattle.std.proofs.Common.{Err, Ok}
 use Rattle.brk_model.specs.Queries.{EstimateOf}
 use Rattle.brk_ref_orders.specs.Records.{abstract_order}
 use Rattle.brk_view_rows.specs.declared.view.View.TheVariants as views
-use Rattle.brk_store.proofs.Retelling.{retold}
+use Rattle.brk_store_reads.proofs.Retelling.{retold}
 use Rattle.brk_desk_decisions.specs.Estimates.{IsEstimateOfModel}
 use Rattle.brk_desk_queries.specs.QueryResults.{AnswersQueryAsModel}
 use Rattle.brk_desk.proofs.EstimateViews.{estimate_refused, estimate_shown}

@@ -4,7 +4,7 @@ use Rattle.brk_ref.specs.Rows.{abstract_summary_row}
 use Rattle.brk_model.specs.Tables.{SummaryRow, Tables}
 use Rattle.brk_desk_decisions.specs.OrderFactReads.{AreAssetsAndSharesOfAccount}
 use Rattle.brk_store_required.specs.Valuation.{AreValuedSummariesOfAccount}
-use Rattle.brk_store.proofs.Retelling.{retold}
+use Rattle.brk_store_reads.proofs.Retelling.{retold}
 use Rattle.brk_desk_decisions.proofs.OrderFinds.{find-filter}
 use Rattle.brk_desk_decisions.proofs.amounts.read_account_amounts.Goals as goal
 

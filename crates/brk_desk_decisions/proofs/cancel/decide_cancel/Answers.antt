@@ -2,10 +2,10 @@ use Rattle.brk_model.specs.Commands.{CancelTrade}
 use Rattle.brk_trade_theorems.specs.Decisions.{DecidesCommand}
 use Rattle.brk_desk_decisions.proofs.SameValues.{same_value}
 use Rattle.brk_desk_decisions.proofs.Cancels.{TradeStatusAndLastStampMatch, last_and_status, cancel_decided}
-use Rattle.brk_store.proofs.ReadResults.{decided}
+use Rattle.brk_store_reads.proofs.ReadResults.{decided}
 use Rattle.std.proofs.lemmas.Result.{err_from_is_err_and}
-use Rattle.brk_store.specs.ReadSequences.{single_read_changes_nothing}
-use Rattle.brk_store.proofs.Sequences.{failed_after}
+use Rattle.brk_store_reads.specs.ReadSequences.{single_read_changes_nothing}
+use Rattle.brk_store_reads.proofs.Sequences.{failed_after}
 use Rattle.brk_desk_decisions.proofs.cancel.decide_cancel.Goals as goal
 
 pub returns : goal.returns

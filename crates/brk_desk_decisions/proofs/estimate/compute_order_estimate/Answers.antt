@@ -3,7 +3,7 @@ use Rattle.brk_ref_orders.specs.Records.{abstract_order}
 use Rattle.brk_store_transactions.specs.Holds.{HoldsRows}
 use Rattle.brk_trade_theorems.specs.OrderPlans.{EstimateFactsMatchTables}
 use Rattle.brk_desk_decisions.specs.Estimates.{IsEstimateOfModel}
-use Rattle.brk_store.proofs.ReadResults.{decided_on, read_at}
+use Rattle.brk_store_reads.proofs.ReadResults.{decided_on, read_at}
 use Rattle.brk_desk_decisions.proofs.Ordering.{estimate_decided}
 use Rattle.brk_desk_decisions.proofs.estimate.compute_order_estimate.Goals as goal
 

@@ -2,7 +2,7 @@ use Rattle.brk_model.specs.Commands.{FeedTicks}
 use Rattle.brk_ref_orders.specs.Records.{abstract_ticks}
 use Rattle.brk_trade_plans.specs.Feed.{states_of_quotes}
 use Rattle.brk_trade_theorems.specs.Decisions.{DecidesCommand}
-use Rattle.brk_store.proofs.ReadResults.{decided}
+use Rattle.brk_store_reads.proofs.ReadResults.{decided}
 use Rattle.brk_desk_decisions.proofs.SameValues.{same_value}
 use Rattle.brk_desk_decisions.proofs.Feeds.{QuotesAndLastStampMatch, feed_decided}
 use Rattle.brk_desk_decisions.proofs.feed.decide_feed.Goals as goal

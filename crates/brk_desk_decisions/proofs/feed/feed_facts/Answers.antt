@@ -10,9 +10,9 @@ use Rattle.brk_trade_theorems.specs.TradePlans.{AreQuotesOfTicks}
 use Rattle.brk_trade_theorems.proofs.Quotes.{no_quotes}
 use Rattle.brk_store_transactions.specs.Holds.{ReadPost}
 use Rattle.brk_desk_decisions.proofs.Feeds.{IsQuoteOfTickOrNone, QuotesAndLastStampMatch, one_quoted, one_not_listed, one_read}
-use Rattle.brk_store.proofs.Retelling.{retold}
-use Rattle.brk_store.proofs.Sequences.{failed_after, read_with}
-use Rattle.brk_store.specs.ReadSequences.{single_read_changes_nothing}
+use Rattle.brk_store_reads.proofs.Retelling.{retold}
+use Rattle.brk_store_reads.proofs.Sequences.{failed_after, read_with}
+use Rattle.brk_store_reads.specs.ReadSequences.{single_read_changes_nothing}
 use Rattle.brk_desk_decisions.proofs.feed.feed_facts.Goals as goal
 use Rattle.brk_desk_decisions.proofs.feed.feed_facts.Goals.{then-has_no_quote_of_symbol+in_ok-quote+in-Some+in_ok-push}
 use Rattle.brk_desk_decisions.proofs.feed.feed_facts.Goals.{then-has_no_quote_of_symbol+in_ok-quote+in_default, else-has_no_quote_of_symbol}

@@ -1,11 +1,11 @@
 use Rattle.brk_ref_orders.specs.Records.{movement_command}
 use Rattle.brk_trade_theorems.specs.Decisions.{DecidesCommand}
-use Rattle.brk_store.proofs.ReadResults.{decided}
+use Rattle.brk_store_reads.proofs.ReadResults.{decided}
 use Rattle.brk_desk_decisions.proofs.SameValues.{same_value}
 use Rattle.brk_desk_decisions.proofs.Moves.{MovementFactsAndLastStampMatch, last_and_found, move_decided}
 use Rattle.std.proofs.lemmas.Result.{err_from_is_err_and}
-use Rattle.brk_store.specs.ReadSequences.{single_read_changes_nothing}
-use Rattle.brk_store.proofs.Sequences.{failed_after}
+use Rattle.brk_store_reads.specs.ReadSequences.{single_read_changes_nothing}
+use Rattle.brk_store_reads.proofs.Sequences.{failed_after}
 use Rattle.brk_desk_decisions.proofs.movement.decide_movement.Goals as goal
 
 pub returns : goal.returns

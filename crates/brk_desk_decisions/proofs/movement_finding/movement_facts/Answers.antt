@@ -4,10 +4,10 @@ use Rattle.brk_model.specs.Tables.{Tables}
 use Rattle.brk_trade_plans.specs.declared.movement.MovementPlanFacts.{MovementPlanFacts}
 use Rattle.brk_trade_books.specs.TradeReads.{last_cash_row_number_or_zero}
 use Rattle.brk_trade_theorems.specs.MovePlans.{MovementFactsMatchTables}
-use Rattle.brk_store.proofs.Sequences.{failed_after, read_with}
+use Rattle.brk_store_reads.proofs.Sequences.{failed_after, read_with}
 use Rattle.brk_desk_decisions.proofs.Moves.{IsBalanceOfAccount, IsTrueIfMovementsAreMaximum}
 use Rattle.std.proofs.lemmas.Result.{err_from_is_err_and}
-use Rattle.brk_store.specs.ReadSequences.{single_read_changes_nothing}
+use Rattle.brk_store_reads.specs.ReadSequences.{single_read_changes_nothing}
 use Rattle.brk_desk_decisions.proofs.movement_finding.movement_facts.Goals as goal
 
 pub returns : goal.returns

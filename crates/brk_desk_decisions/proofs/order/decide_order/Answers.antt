@@ -3,11 +3,11 @@ use Rattle.brk_model.specs.Commands.{PlaceOrder}
 use Rattle.brk_ref_orders.specs.Records.{abstract_order}
 use Rattle.brk_store_transactions.specs.Holds.{HoldsRows}
 use Rattle.brk_trade_theorems.specs.Decisions.{DecidesCommand}
-use Rattle.brk_store.proofs.ReadResults.{decided_on, read_at}
+use Rattle.brk_store_reads.proofs.ReadResults.{decided_on, read_at}
 use Rattle.brk_desk_decisions.proofs.Ordering.{OrderFactsAndLastStampMatch, order_decided, order_read}
 use Rattle.std.proofs.lemmas.Result.{err_from_is_err_and}
-use Rattle.brk_store.specs.ReadSequences.{single_read_changes_nothing}
-use Rattle.brk_store.proofs.Sequences.{failed_after}
+use Rattle.brk_store_reads.specs.ReadSequences.{single_read_changes_nothing}
+use Rattle.brk_store_reads.proofs.Sequences.{failed_after}
 use Rattle.brk_desk_decisions.proofs.order.decide_order.Goals as goal
 
 pub returns : goal.returns

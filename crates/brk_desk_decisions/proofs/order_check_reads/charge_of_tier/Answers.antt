@@ -6,7 +6,7 @@ use Rattle.brk_money.specs.Kinds.{is_same_trade_type}
 use Rattle.brk_ref.specs.Records.{abstract_charge}
 use Rattle.brk_ref.specs.declared.charge.Charge as ref
 use Rattle.brk_trade_books.specs.OrderReads.{charge_of_type_and_tier}
-use Rattle.brk_store.proofs.Retelling.{retold}
+use Rattle.brk_store_reads.proofs.Retelling.{retold}
 use Rattle.brk_desk_decisions.proofs.order_check_reads.charge_of_tier.Goals as goal
 
 pub returns-in-Some : goal.returns-in-Some

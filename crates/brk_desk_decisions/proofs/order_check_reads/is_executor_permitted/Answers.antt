@@ -4,7 +4,7 @@ use Rattle.brk_model.specs.Orders.{is_customer_or_has_permission}
 use Rattle.brk_model.specs.Tables.{Tables}
 use Rattle.brk_ref.specs.Records.{abstract_customer, abstract_executor, abstract_permission}
 use Rattle.brk_trade_books.specs.TradeReads.{permission_list_for_tax_id}
-use Rattle.brk_store.proofs.Retelling.{retold}
+use Rattle.brk_store_reads.proofs.Retelling.{retold}
 use Rattle.brk_desk_decisions.proofs.OrderFinds.{listed}
 use Rattle.brk_desk_decisions.proofs.order_check_reads.is_executor_permitted.Goals as goal
 

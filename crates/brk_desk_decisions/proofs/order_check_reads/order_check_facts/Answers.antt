@@ -11,9 +11,9 @@ use Rattle.brk_trade_books.specs.OrderReads.{charge_of_type_and_tier, last_price
 use Rattle.brk_trade_books.specs.TradeReads.{commission_band_of_quantity, permission_list_for_tax_id}
 use Rattle.brk_desk_decisions.specs.OrderFactReads.{CustomerOrderFactsMatchTables}
 use Rattle.brk_desk_decisions.specs.declared.order_check_reads.OrderCheckFacts.{OrderCheckFacts}
-use Rattle.brk_store.proofs.Sequences.{failed_after, read_with, unchanged_after}
+use Rattle.brk_store_reads.proofs.Sequences.{failed_after, read_with, unchanged_after}
 use Rattle.std.proofs.lemmas.Result.{err_from_is_err_and}
-use Rattle.brk_store.specs.ReadSequences.{single_read_changes_nothing}
+use Rattle.brk_store_reads.specs.ReadSequences.{single_read_changes_nothing}
 use Rattle.brk_desk_decisions.proofs.order_check_reads.order_check_facts.Goals as goal
 
 pub returns : goal.returns

@@ -5,7 +5,7 @@ use Rattle.brk_model.specs.Records.{Band}
 use Rattle.brk_model.specs.Tables.{Tables}
 use Rattle.brk_ref.specs.Records.{abstract_band}
 use Rattle.brk_trade_books.specs.TradeReads.{commission_band_of_quantity}
-use Rattle.brk_store.proofs.Retelling.{retold}
+use Rattle.brk_store_reads.proofs.Retelling.{retold}
 use Rattle.brk_desk_decisions.proofs.order_check_reads.read_band_rate.Goals as goal
 
 pub returns : goal.returns

@@ -4,7 +4,7 @@ use Rattle.brk_model.specs.Tables.{LastTradeRow, Tables}
 use Rattle.brk_ref.specs.Records.{abstract_last_trade_row}
 use Rattle.brk_ref.specs.declared.last_trade.LastTrade.{LastTrade}
 use Rattle.brk_trade_books.specs.OrderReads.{last_price_of_symbol}
-use Rattle.brk_store.proofs.Retelling.{retold}
+use Rattle.brk_store_reads.proofs.Retelling.{retold}
 use Rattle.brk_desk_decisions.proofs.order_check_reads.read_last_price.Goals as goal
 
 pub returns-in-Some : goal.returns-in-Some

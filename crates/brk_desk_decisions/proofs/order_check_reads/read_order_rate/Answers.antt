@@ -8,10 +8,10 @@ use Rattle.brk_model.specs.Tables.{SecurityRow, Tables}
 use Rattle.brk_ref.specs.Records.{abstract_security_row}
 use Rattle.brk_ref.specs.declared.security.Security.{Security}
 use Rattle.brk_trade_books.specs.TradeReads.{commission_band_of_quantity}
-use Rattle.brk_store.proofs.Retelling.{retold}
-use Rattle.brk_store.proofs.Sequences.{failed_after, read_with}
+use Rattle.brk_store_reads.proofs.Retelling.{retold}
+use Rattle.brk_store_reads.proofs.Sequences.{failed_after, read_with}
 use Rattle.std.proofs.lemmas.Result.{err_from_is_err_and}
-use Rattle.brk_store.specs.ReadSequences.{single_read_changes_nothing}
+use Rattle.brk_store_reads.specs.ReadSequences.{single_read_changes_nothing}
 use Rattle.brk_desk_decisions.proofs.order_check_reads.read_order_rate.Goals as goal
 
 pub returns-in_ok-rate-in-Some : goal.returns-in_ok-rate-in-Some

@@ -3,10 +3,10 @@ use Rattle.brk_money.specs.declared.fault.CallFault.{CallFault}
 use Rattle.brk_model.specs.Tables.{Tables}
 use Rattle.brk_desk_decisions.specs.OrderFactReads.{EstimateAmountsMatchTables, CustomerOrderFactsMatchTables, EstimateFactsMatchIfAccountOfOrder}
 use Rattle.brk_store_required.specs.Required.{IsCustomerWithId}
-use Rattle.brk_store.proofs.Sequences.{failed_after, read_with, unchanged_after}
+use Rattle.brk_store_reads.proofs.Sequences.{failed_after, read_with, unchanged_after}
 use Rattle.brk_desk_decisions.proofs.OrderFinds.{all_found}
 use Rattle.std.proofs.lemmas.Result.{err_from_is_err_and}
-use Rattle.brk_store.specs.ReadSequences.{single_read_changes_nothing}
+use Rattle.brk_store_reads.specs.ReadSequences.{single_read_changes_nothing}
 use Rattle.brk_desk_decisions.proofs.order_finding.estimate_facts_of_account.Goals as goal
 
 pub returns : goal.returns

@@ -5,10 +5,10 @@ use Rattle.brk_ref.specs.Records.{abstract_account_row}
 use Rattle.brk_trade_books.specs.Reads.{customer_tax_rate_sum}
 use Rattle.brk_store_required.specs.Required.{IsBrokerWithId, IsCustomerWithId}
 use Rattle.brk_desk_decisions.specs.ResultFactReads.{PartyFactsMatchTables}
-use Rattle.brk_store.proofs.Sequences.{failed_after, read_with, unchanged_after}
+use Rattle.brk_store_reads.proofs.Sequences.{failed_after, read_with, unchanged_after}
 use Rattle.brk_desk_decisions.proofs.ResultReading.{parties_known, parties_of_rows}
 use Rattle.std.proofs.lemmas.Result.{err_from_is_err_and}
-use Rattle.brk_store.specs.ReadSequences.{single_read_changes_nothing}
+use Rattle.brk_store_reads.specs.ReadSequences.{single_read_changes_nothing}
 use Rattle.brk_desk_decisions.proofs.parties.parties_of_row.Goals as goal
 
 pub returns : goal.returns

@@ -6,9 +6,9 @@ use Rattle.brk_model.specs.Tables.{AccountRow, Tables}
 use Rattle.brk_ref.specs.Records.{abstract_account_row}
 use Rattle.brk_desk_decisions.specs.ResultFactReads.{PartyFactsMatchTables}
 use Rattle.brk_store_required.specs.Required.{IsAccountWithId}
-use Rattle.brk_store.proofs.Sequences.{failed_after, read_with}
+use Rattle.brk_store_reads.proofs.Sequences.{failed_after, read_with}
 use Rattle.std.proofs.lemmas.Result.{err_from_is_err_and}
-use Rattle.brk_store.specs.ReadSequences.{single_read_changes_nothing}
+use Rattle.brk_store_reads.specs.ReadSequences.{single_read_changes_nothing}
 use Rattle.brk_desk_decisions.proofs.parties.party_facts.Goals as goal
 
 pub returns : goal.returns

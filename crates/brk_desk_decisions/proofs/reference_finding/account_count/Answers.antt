@@ -3,7 +3,7 @@ use Rattle.brk_model.specs.Tables.{Tables}
 use Rattle.brk_ref.specs.Records.{abstract_account_row}
 use Rattle.brk_trade_books.specs.Reads.{account_count_of_customer}
 use Rattle.brk_trade_books.proofs.Reading.{are_counted}
-use Rattle.brk_store.proofs.Retelling.{retold}
+use Rattle.brk_store_reads.proofs.Retelling.{retold}
 use Rattle.brk_desk_decisions.proofs.reference_finding.account_count.Goals as goal
 
 pub returns : goal.returns

@@ -5,9 +5,9 @@ use Rattle.brk_model.specs.Tables.{Tables}
 use Rattle.brk_trade_plans.specs.declared.reference.ReferenceFacts.{ReferenceFacts}
 use Rattle.brk_trade_books.specs.Reads.{account_count_of_customer}
 use Rattle.brk_trade_theorems.specs.Found.{AccountFactsMatchTables}
-use Rattle.brk_store.proofs.Sequences.{failed_after, read_with, unchanged_after}
+use Rattle.brk_store_reads.proofs.Sequences.{failed_after, read_with, unchanged_after}
 use Rattle.std.proofs.lemmas.Result.{err_from_is_err_and}
-use Rattle.brk_store.specs.ReadSequences.{single_read_changes_nothing}
+use Rattle.brk_store_reads.specs.ReadSequences.{single_read_changes_nothing}
 use Rattle.brk_desk_decisions.proofs.reference_finding.account_facts.Goals as goal
 
 pub returns : goal.returns

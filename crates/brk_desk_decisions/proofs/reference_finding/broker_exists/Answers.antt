@@ -3,7 +3,7 @@ use Rattle.brk_model.specs.Tables.{Tables}
 use Rattle.brk_ref.specs.Records.{abstract_broker_row}
 use Rattle.brk_model.specs.Form.{has_broker}
 use Rattle.brk_trade_books.proofs.Reading.{is_there}
-use Rattle.brk_store.proofs.Retelling.{retold}
+use Rattle.brk_store_reads.proofs.Retelling.{retold}
 use Rattle.brk_desk_decisions.proofs.reference_finding.broker_exists.Goals as goal
 
 pub returns : goal.returns

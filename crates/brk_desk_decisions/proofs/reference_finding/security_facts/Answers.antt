@@ -5,7 +5,7 @@ use Rattle.brk_ref.specs.Records.{abstract_security_row}
 use Rattle.brk_model.specs.Form.{has_security}
 use Rattle.brk_trade_books.proofs.Reading.{is_there}
 use Rattle.brk_trade_plans.specs.declared.reference.ReferenceFacts.{ReferenceFacts}
-use Rattle.brk_store.proofs.Retelling.{retold}
+use Rattle.brk_store_reads.proofs.Retelling.{retold}
 use Rattle.brk_desk_decisions.proofs.reference_finding.security_facts.Goals as goal
 
 pub returns : goal.returns

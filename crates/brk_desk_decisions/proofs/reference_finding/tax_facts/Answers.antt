@@ -4,7 +4,7 @@ use Rattle.brk_ref.specs.Records.{abstract_tax_rate}
 use Rattle.brk_trade_books.specs.Reads.{contains_tax_rate}
 use Rattle.brk_trade_books.proofs.Reading.{is_there}
 use Rattle.brk_trade_plans.specs.declared.reference.ReferenceFacts.{ReferenceFacts}
-use Rattle.brk_store.proofs.Retelling.{retold}
+use Rattle.brk_store_reads.proofs.Retelling.{retold}
 use Rattle.brk_desk_decisions.proofs.reference_finding.tax_facts.Goals as goal
 
 pub returns : goal.returns

@@ -4,7 +4,7 @@ use Rattle.brk_model.specs.Tables.{Tables}
 use Rattle.brk_ref.specs.Records.{abstract_customer}
 use Rattle.brk_trade_books.specs.Reads.{contains_customer_with_tax_id}
 use Rattle.brk_trade_books.proofs.Reading.{is_there}
-use Rattle.brk_store.proofs.Retelling.{retold}
+use Rattle.brk_store_reads.proofs.Retelling.{retold}
 use Rattle.brk_desk_decisions.proofs.reference_finding.tax_id_exists.Goals as goal
 
 pub returns : goal.returns

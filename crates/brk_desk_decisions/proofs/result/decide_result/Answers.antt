@@ -1,11 +1,11 @@
 use Rattle.brk_model.specs.Commands.{CompleteTrade}
 use Rattle.brk_store_transactions.specs.Holds.{HoldsRows}
 use Rattle.brk_trade_theorems.specs.Decisions.{DecidesCommand}
-use Rattle.brk_store.proofs.ReadResults.{decided_on}
+use Rattle.brk_store_reads.proofs.ReadResults.{decided_on}
 use Rattle.brk_desk_decisions.proofs.Resulting.{ResultFactsAndLastStampMatch, last_and_found, result_decided}
 use Rattle.std.proofs.lemmas.Result.{err_from_is_err_and}
-use Rattle.brk_store.specs.ReadSequences.{single_read_changes_nothing}
-use Rattle.brk_store.proofs.Sequences.{failed_after}
+use Rattle.brk_store_reads.specs.ReadSequences.{single_read_changes_nothing}
+use Rattle.brk_store_reads.proofs.Sequences.{failed_after}
 use Rattle.brk_desk_decisions.proofs.result.decide_result.Goals as goal
 
 pub returns : goal.returns

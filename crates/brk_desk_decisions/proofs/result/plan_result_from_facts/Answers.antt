@@ -2,8 +2,8 @@ use Rattle.std.proofs.Common.{Some, rules}
 use Rattle.sqlite.specs.Held.{state}
 use Rattle.sqlite.specs.State.{HasCleanDisk}
 use Rattle.brk_store_transactions.specs.Holds.{HoldsRows}
-use Rattle.brk_store.specs.ReadSequences.{empty_read_sequence_changes_nothing}
-use Rattle.brk_store.proofs.ReadResults.{kept_at}
+use Rattle.brk_store_reads.specs.ReadSequences.{empty_read_sequence_changes_nothing}
+use Rattle.brk_store_reads.proofs.ReadResults.{kept_at}
 use Rattle.brk_desk_decisions.proofs.SameValues.{same_value}
 use Rattle.brk_desk_decisions.proofs.Resulting.{none_over, result_over}
 use Rattle.brk_desk_decisions.proofs.result.plan_result_from_facts.Goals as goal

@@ -6,11 +6,11 @@ use Rattle.brk_ref.specs.Rows.{abstract_trade_row}
 use Rattle.brk_trade.specs.declared.result_found.ResultPlanFacts.{ResultPlanFacts}
 use Rattle.brk_ref.specs.declared.trade_row.TradeRow.{TradeRow}
 use Rattle.brk_desk_decisions.specs.ResultFactReads.{AreResultFactsOfTradeWithId, AreResultFactsOfTrade}
-use Rattle.brk_store.proofs.Retelling.{retold}
-use Rattle.brk_store.proofs.Sequences.{failed_after, read_with}
+use Rattle.brk_store_reads.proofs.Retelling.{retold}
+use Rattle.brk_store_reads.proofs.Sequences.{failed_after, read_with}
 use Rattle.brk_desk_decisions.proofs.ResultReading.{there}
 use Rattle.std.proofs.lemmas.Result.{err_from_is_err_and}
-use Rattle.brk_store.specs.ReadSequences.{single_read_changes_nothing}
+use Rattle.brk_store_reads.specs.ReadSequences.{single_read_changes_nothing}
 use Rattle.brk_desk_decisions.proofs.result_finding.facts_of_result.Goals as goal
 
 pub returns-in_ok-found-in-Some-clause-read : goal.returns-in_ok-found-in-Some-clause-read

@@ -4,9 +4,9 @@ use Rattle.brk_model.specs.Tables.{Tables}
 use Rattle.brk_trade_books.specs.TradeReads.{last_cash_row_number_or_zero}
 use Rattle.brk_desk_decisions.specs.ResultFactReads.{PostingFactsMatchTables}
 use Rattle.brk_trade.specs.declared.result_found.Posting.{Posting}
-use Rattle.brk_store.proofs.Sequences.{failed_after, read_with}
+use Rattle.brk_store_reads.proofs.Sequences.{failed_after, read_with}
 use Rattle.std.proofs.lemmas.Result.{err_from_is_err_and}
-use Rattle.brk_store.specs.ReadSequences.{single_read_changes_nothing}
+use Rattle.brk_store_reads.specs.ReadSequences.{single_read_changes_nothing}
 use Rattle.brk_desk_decisions.proofs.result_finding.posting_facts.Goals as goal
 
 pub returns : goal.returns

@@ -4,10 +4,10 @@ use Rattle.brk_model.specs.Tables.{Tables}
 use Rattle.brk_ref.specs.Rows.{abstract_summary_row}
 use Rattle.brk_trade_books.specs.TradeReads.{summary_row_of_position}
 use Rattle.brk_desk_decisions.specs.ResultFactReads.{AreResultFactsOfTrade, PostingFactsMatchTables}
-use Rattle.brk_store.proofs.Sequences.{failed_after, read_with, unchanged_after}
+use Rattle.brk_store_reads.proofs.Sequences.{failed_after, read_with, unchanged_after}
 use Rattle.brk_desk_decisions.proofs.ResultReading.{PartyFactsMatchIfAccountExists, SecurityFactsMatchIfSecurityExists, SummaryMatches, found_known, result_facts_with}
 use Rattle.std.proofs.lemmas.Result.{err_from_is_err_and}
-use Rattle.brk_store.specs.ReadSequences.{single_read_changes_nothing}
+use Rattle.brk_store_reads.specs.ReadSequences.{single_read_changes_nothing}
 use Rattle.brk_desk_decisions.proofs.result_finding.result_facts_of_row.Goals as goal
 
 pub returns-clause-read : goal.returns-clause-read

@@ -8,9 +8,9 @@ use Rattle.brk_trade_books.specs.TradeReads.{commission_band_of_quantity}
 use Rattle.brk_desk_decisions.specs.ResultFactReads.{SecurityFactsMatchTables}
 use Rattle.brk_store_required.specs.Required.{IsSecurityWithSymbol}
 use Rattle.brk_trade.specs.declared.result_found.TradedSecurity.{TradedSecurity}
-use Rattle.brk_store.proofs.Sequences.{failed_after, read_with}
+use Rattle.brk_store_reads.proofs.Sequences.{failed_after, read_with}
 use Rattle.std.proofs.lemmas.Result.{err_from_is_err_and}
-use Rattle.brk_store.specs.ReadSequences.{single_read_changes_nothing}
+use Rattle.brk_store_reads.specs.ReadSequences.{single_read_changes_nothing}
 use Rattle.brk_desk_decisions.proofs.result_finding.traded_security.Goals as goal
 
 pub returns : goal.returns

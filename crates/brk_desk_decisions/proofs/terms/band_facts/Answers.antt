@@ -8,7 +8,7 @@ use Rattle.brk_model.specs.Tests.{bands_overlap}
 use Rattle.brk_ref.specs.Records.{abstract_band}
 use Rattle.brk_trade_books.specs.Reads.{overlaps_some_band}
 use Rattle.brk_trade_plans.specs.declared.reference.ReferenceFacts.{ReferenceFacts}
-use Rattle.brk_store.proofs.Retelling.{retold}
+use Rattle.brk_store_reads.proofs.Retelling.{retold}
 use Rattle.brk_desk_decisions.proofs.terms.band_facts.Goals as goal
 
 pub returns : goal.returns

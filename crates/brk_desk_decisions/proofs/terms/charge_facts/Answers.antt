@@ -6,7 +6,7 @@ use Rattle.brk_ref.specs.Records.{abstract_charge}
 use Rattle.brk_trade_books.specs.Reads.{contains_charge}
 use Rattle.brk_trade_books.proofs.Reading.{is_there}
 use Rattle.brk_trade_plans.specs.declared.reference.ReferenceFacts.{ReferenceFacts}
-use Rattle.brk_store.proofs.Retelling.{retold}
+use Rattle.brk_store_reads.proofs.Retelling.{retold}
 use Rattle.brk_desk_decisions.proofs.terms.charge_facts.Goals as goal
 
 pub returns : goal.returns

@@ -5,7 +5,7 @@ use Rattle.brk_model.specs.Tables.{Tables}
 use Rattle.brk_ref.specs.Records.{abstract_tax_rate}
 use Rattle.brk_trade_books.specs.Reads.{customer_tax_rate_sum, tax_rate_with_id}
 use Rattle.brk_trade_books.proofs.TermReading.{taxes_found}
-use Rattle.brk_store.proofs.Retelling.{retold}
+use Rattle.brk_store_reads.proofs.Retelling.{retold}
 use Rattle.brk_desk_decisions.proofs.terms.checked_tax_rate_sum.Goals as goal
 
 pub returns : goal.returns

@@ -4,9 +4,9 @@ use Rattle.brk_model.specs.Form.{has_account}
 use Rattle.brk_model.specs.Tables.{Tables}
 use Rattle.brk_trade_plans.specs.declared.reference.ReferenceFacts.{ReferenceFacts}
 use Rattle.brk_trade_books.specs.Reads.{contains_permission}
-use Rattle.brk_store.proofs.Sequences.{failed_after, read_with}
+use Rattle.brk_store_reads.proofs.Sequences.{failed_after, read_with}
 use Rattle.std.proofs.lemmas.Result.{err_from_is_err_and}
-use Rattle.brk_store.specs.ReadSequences.{single_read_changes_nothing}
+use Rattle.brk_store_reads.specs.ReadSequences.{single_read_changes_nothing}
 use Rattle.brk_desk_decisions.proofs.terms.permission_facts.Goals as goal
 
 pub returns : goal.returns

@@ -7,10 +7,10 @@ use Rattle.brk_ref.specs.Records.{abstract_customer_tax, abstract_tax_rate}
 use Rattle.brk_ref.specs.declared.customer_tax.CustomerTax as ref
 use Rattle.brk_ref.specs.declared.tax.Tax.{Tax}
 use Rattle.brk_trade_books.specs.Reads.{tax_rate_with_id}
-use Rattle.brk_store.proofs.Retelling.{retold}
+use Rattle.brk_store_reads.proofs.Retelling.{retold}
 use Rattle.std.proofs.lemmas.Result.{err_from_is_err_and}
-use Rattle.brk_store.specs.ReadSequences.{single_read_changes_nothing}
-use Rattle.brk_store.proofs.Sequences.{failed_after, none_read, read_with, unchanged_after}
+use Rattle.brk_store_reads.specs.ReadSequences.{single_read_changes_nothing}
+use Rattle.brk_store_reads.proofs.Sequences.{failed_after, none_read, read_with, unchanged_after}
 use Rattle.brk_desk_decisions.proofs.terms.read_taxes.Goals as goal
 
 -- the first rows, which are a customer's, have the taxes that were read

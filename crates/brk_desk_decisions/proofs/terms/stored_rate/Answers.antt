@@ -4,7 +4,7 @@ use Rattle.brk_model.specs.Tables.{Tables}
 use Rattle.brk_ref.specs.Records.{abstract_tax_rate}
 use Rattle.brk_ref.specs.declared.tax.Tax.{Tax}
 use Rattle.brk_trade_books.specs.Reads.{rate_of_tax_rate_with_id}
-use Rattle.brk_store.proofs.Retelling.{retold}
+use Rattle.brk_store_reads.proofs.Retelling.{retold}
 use Rattle.brk_desk_decisions.proofs.terms.stored_rate.Goals as goal
 
 pub returns-in-Some : goal.returns-in-Some

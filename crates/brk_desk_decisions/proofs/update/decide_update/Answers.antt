@@ -3,13 +3,13 @@ use Rattle.brk_money.specs.declared.fault.CallFault.{CallFault}
 use Rattle.brk_model.specs.Tables.{Tables}
 use Rattle.brk_ref_orders.specs.Records.{text_update_command}
 use Rattle.brk_trade_theorems.specs.Decisions.{DecidesCommand}
-use Rattle.brk_store.proofs.ReadResults.{decided}
-use Rattle.brk_store.proofs.Sequences.{none_read, read_with_reads}
+use Rattle.brk_store_reads.proofs.ReadResults.{decided}
+use Rattle.brk_store_reads.proofs.Sequences.{none_read, read_with_reads}
 use Rattle.brk_trade_theorems.specs.Corrections.{UpdateFactsMatchTables}
 use Rattle.brk_desk_decisions.proofs.SameValues.{same_value}
 use Rattle.brk_desk_decisions.proofs.Updates.{UpdateFactsAndLastStampMatch, update_decided}
 use Rattle.std.proofs.lemmas.Result.{err_from_is_err_and}
-use Rattle.brk_store.specs.ReadSequences.{joined_reads_change_nothing, single_read_changes_nothing}
+use Rattle.brk_store_reads.specs.ReadSequences.{joined_reads_change_nothing, single_read_changes_nothing}
 use Rattle.brk_desk_decisions.proofs.update.decide_update.Goals as goal
 
 pub returns : goal.returns

@@ -8,11 +8,11 @@ use Rattle.brk_trade_rows.specs.Chosen.{first_twenty_completed_cash_trade_rows_o
 use Rattle.brk_ref_orders.specs.declared.update.Update.TheVariants as update
 use Rattle.brk_trade_plans.specs.declared.corrected.TextUpdate.{TextUpdate}
 use Rattle.brk_trade_plans.specs.declared.corrected.TextUpdate.TheVariants.{CashNames}
-use Rattle.brk_store.proofs.Sequences.{failed_after, read_with}
-use Rattle.brk_store.proofs.Retelling.{retold}
+use Rattle.brk_store_reads.proofs.Sequences.{failed_after, read_with}
+use Rattle.brk_store_reads.proofs.Retelling.{retold}
 use Rattle.brk_trade_theorems.specs.Corrections.{CashTextsMatchTables, UpdateFactsMatchTables, SecurityHasName}
 use Rattle.std.proofs.lemmas.Result.{err_from_is_err_and}
-use Rattle.brk_store.specs.ReadSequences.{single_read_changes_nothing}
+use Rattle.brk_store_reads.specs.ReadSequences.{single_read_changes_nothing}
 use Rattle.brk_desk_decisions.proofs.update_finding.cash_name_facts.Goals as goal
 
 -- the name that a look-up gave, none where there is no such security

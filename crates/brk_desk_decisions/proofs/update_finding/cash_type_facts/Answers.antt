@@ -7,12 +7,12 @@ use Rattle.brk_trade_rows.specs.Chosen.{first_twenty_completed_trade_rows_of_acc
 use Rattle.brk_ref_orders.specs.declared.update.Update.TheVariants as update
 use Rattle.brk_trade_plans.specs.declared.corrected.TextUpdate.{TextUpdate}
 use Rattle.brk_trade_plans.specs.declared.corrected.TextUpdate.TheVariants.{CashTypes}
-use Rattle.brk_store.proofs.Sequences.{failed_after, read_with}
-use Rattle.brk_store.proofs.Retelling.{retold}
+use Rattle.brk_store_reads.proofs.Sequences.{failed_after, read_with}
+use Rattle.brk_store_reads.proofs.Retelling.{retold}
 use Rattle.brk_trade_theorems.specs.Corrections.{SettlementTextsMatchTables, UpdateFactsMatchTables}
 use Rattle.brk_desk_decisions.proofs.UpdateFinds.{missing_if, present_if}
 use Rattle.std.proofs.lemmas.Result.{err_from_is_err_and}
-use Rattle.brk_store.specs.ReadSequences.{single_read_changes_nothing}
+use Rattle.brk_store_reads.specs.ReadSequences.{single_read_changes_nothing}
 use Rattle.brk_desk_decisions.proofs.update_finding.cash_type_facts.Goals as goal
 
 pub returns-then-not-branch : goal.returns-then-not-branch

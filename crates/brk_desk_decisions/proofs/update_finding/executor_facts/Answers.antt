@@ -6,7 +6,7 @@ use Rattle.brk_model.specs.Joins.{trade_row_with_id}
 use Rattle.brk_model.specs.Tables.{Tables}
 use Rattle.brk_ref.specs.declared.trade_row.TradeRow.{TradeRow}
 use Rattle.brk_ref_orders.specs.declared.update.Update.TheVariants as update
-use Rattle.brk_store.proofs.Sequences.{reads_retold}
+use Rattle.brk_store_reads.proofs.Sequences.{reads_retold}
 use Rattle.brk_trade_books.specs.TradeReads.{AreTradesWithIds}
 use Rattle.brk_trade_theorems.specs.Corrections.{UpdateFactsMatchTables}
 use Rattle.brk_trade_plans.specs.declared.corrected.TextUpdate.{TextUpdate}

@@ -6,12 +6,12 @@ use Rattle.brk_trade_rows.specs.Chosen.{first_twenty_completed_trade_rows_of_acc
 use Rattle.brk_ref.specs.Rows.{cash_type_text, abstract_trade_row}
 use Rattle.brk_ref.specs.declared.trade_row.TradeRow.{TradeRow}
 use Rattle.brk_trade_plans.specs.declared.corrected.SettlementText.{SettlementText}
-use Rattle.brk_store.proofs.Retelling.{retold}
+use Rattle.brk_store_reads.proofs.Retelling.{retold}
 use Rattle.brk_trade_theorems.specs.Corrections.{SettlementTextsMatchTables, settlement_text_row_in_tables, settlement_text_row_of_typed_row, settlement_row_of_trade}
 use Rattle.brk_store.proofs.TradesFound.{one_more, twice}
 use Rattle.std.proofs.lemmas.Result.{err_from_is_err_and}
-use Rattle.brk_store.specs.ReadSequences.{single_read_changes_nothing}
-use Rattle.brk_store.proofs.Sequences.{failed_after, none_read, read_with, unchanged_after}
+use Rattle.brk_store_reads.specs.ReadSequences.{single_read_changes_nothing}
+use Rattle.brk_store_reads.proofs.Sequences.{failed_after, none_read, read_with, unchanged_after}
 use Rattle.brk_desk_decisions.proofs.update_finding.read_cash_types.Goals as goal
 
 -- what was read is of the first of the trades that are chosen

@@ -5,7 +5,7 @@ use Rattle.brk_model.specs.Tables.{SecurityRow, Tables}
 use Rattle.brk_money.specs.Spelling.{Text}
 use Rattle.brk_ref.specs.Records.{abstract_security_row}
 use Rattle.brk_ref.specs.declared.security.Security.{Security}
-use Rattle.brk_store.proofs.Retelling.{retold}
+use Rattle.brk_store_reads.proofs.Retelling.{retold}
 use Rattle.brk_trade_theorems.specs.Corrections.{SecurityHasName}
 use Rattle.brk_desk_decisions.proofs.update_finding.security_name.Goals as goal
 

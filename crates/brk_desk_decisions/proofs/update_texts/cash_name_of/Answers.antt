@@ -3,7 +3,7 @@ use Rattle.std.specs.Prelude.{string_bytes}
 use Rattle.brk_model.specs.LookupView.{is_cash_row_of_trade}
 use Rattle.brk_model.specs.Tables.{CashRow, Tables}
 use Rattle.brk_ref.specs.Rows.{abstract_cash_row}
-use Rattle.brk_store.proofs.Retelling.{retold}
+use Rattle.brk_store_reads.proofs.Retelling.{retold}
 use Rattle.brk_trade_theorems.specs.Corrections.{cash_row_of_trade}
 use Rattle.brk_desk_decisions.proofs.update_texts.cash_name_of.Goals as goal
 

@@ -1,7 +1,7 @@
 use Rattle.std.proofs.Common.{◌≡◌, ◌==◌, Some, ap, find, option_map}
 use Rattle.brk_model.specs.Tables.{SettlementRow, Tables}
 use Rattle.brk_ref.specs.Rows.{cash_type_text, abstract_settlement_row}
-use Rattle.brk_store.proofs.Retelling.{retold}
+use Rattle.brk_store_reads.proofs.Retelling.{retold}
 use Rattle.brk_trade_theorems.specs.Corrections.{settlement_row_of_trade}
 use Rattle.brk_desk_decisions.proofs.update_texts.cash_type_of.Goals as goal
 

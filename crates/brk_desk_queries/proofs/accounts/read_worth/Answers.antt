@@ -2,7 +2,7 @@ use Rattle.std.proofs.Common.{◌≡◌, ℤ, ap}
 use Rattle.brk_store_required.specs.Valuation.{market_value_of_account}
 use Rattle.brk_model.specs.Tables.{Tables}
 use Rattle.brk_ref.specs.Records.{abstract_account_row}
-use Rattle.brk_store.proofs.Retelling.{retold}
+use Rattle.brk_store_reads.proofs.Retelling.{retold}
 use Rattle.brk_view_rows.specs.Worths.{worth_of_account}
 use Rattle.brk_view_rows.specs.declared.worths.AccountWorth.{AccountWorth}
 use Rattle.brk_desk_queries.proofs.accounts.read_worth.Goals as goal

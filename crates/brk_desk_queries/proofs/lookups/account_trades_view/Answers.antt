@@ -9,14 +9,14 @@ use Rattle.brk_model.specs.Queries.{TradesOfAccount}
 use Rattle.brk_model.specs.Tables.{Tables}
 use Rattle.brk_ref.specs.Records.{abstract_account_row}
 use Rattle.brk_ref.specs.declared.account.AccountRow.{AccountRow}
-use Rattle.brk_store.proofs.Retelling.{retold}
-use Rattle.brk_store.proofs.Sequences.{failed_after, none_read, read_with, read_with_reads, unchanged_after}
+use Rattle.brk_store_reads.proofs.Retelling.{retold}
+use Rattle.brk_store_reads.proofs.Sequences.{failed_after, none_read, read_with, read_with_reads, unchanged_after}
 use Rattle.brk_view_rows.specs.declared.view.View.{View}
 use Rattle.brk_desk_queries.specs.LookedUp.{HaveAllRowsOfTrades}
 use Rattle.brk_desk_queries.specs.QueryResults.{AnswersQueryAsModel}
 use Rattle.brk_desk_queries.proofs.LookupViews.{is_trade_of_account_in_span, account_trades_seen, no_account_trades}
 use Rattle.std.proofs.lemmas.Result.{err_from_is_err_and}
-use Rattle.brk_store.specs.ReadSequences.{joined_reads_change_nothing, single_read_changes_nothing}
+use Rattle.brk_store_reads.specs.ReadSequences.{joined_reads_change_nothing, single_read_changes_nothing}
 use Rattle.brk_desk_queries.proofs.lookups.account_trades_view.Goals as goal
 
 -- the account with an id

@@ -4,11 +4,11 @@ use Rattle.brk_money.specs.declared.fault.CallFault.{CallFault}
 use Rattle.brk_ref.specs.Rows.{abstract_history_row, abstract_cash_row, abstract_settlement_row, abstract_trade_row}
 use Rattle.brk_model.specs.LookupView.{is_cash_row_of_trade}
 use Rattle.brk_model.specs.Tables.{HistoryRow, SettlementRow, Tables}
-use Rattle.brk_store.proofs.ReadResults.{decided}
-use Rattle.brk_store.proofs.Sequences.{failed_after, none_read, read_with, unchanged_after}
+use Rattle.brk_store_reads.proofs.ReadResults.{decided}
+use Rattle.brk_store_reads.proofs.Sequences.{failed_after, none_read, read_with, unchanged_after}
 use Rattle.brk_desk_queries.specs.LookedUp.{HasAllRowsOfTrade}
 use Rattle.brk_desk_queries.proofs.LookupViews.{AreRelatedRowsOfTrade, follows}
-use Rattle.brk_store.specs.ReadSequences.{single_read_changes_nothing}
+use Rattle.brk_store_reads.specs.ReadSequences.{single_read_changes_nothing}
 use Rattle.brk_desk_queries.proofs.lookups.look_up_trade.Goals as goal
 
 pub returns : goal.returns

@@ -3,7 +3,7 @@ use Rattle.brk_money.specs.declared.fault.CallFault.{CallFault}
 use Rattle.brk_ref.specs.Rows.{abstract_trade_row}
 use Rattle.brk_model.specs.Base.{Base}
 use Rattle.brk_model.specs.Sheets.{sheets}
-use Rattle.brk_store.specs.ReadSequences.{ReadSequencePost}
+use Rattle.brk_store_reads.specs.ReadSequences.{ReadSequencePost}
 use Rattle.brk_audit_theorems.specs.Sound.{AuditInvariant}
 use Rattle.brk_trade_books.specs.Books.{BooksInvariant}
 use Rattle.brk_view_rows.specs.Lookup.{rows_of_looked_up_trade, table_rows_of_trade}

@@ -10,14 +10,14 @@ use Rattle.brk_model.specs.Queries.{TradesOfSymbol}
 use Rattle.brk_model.specs.Tables.{Tables}
 use Rattle.brk_ref.specs.Records.{abstract_security_row}
 use Rattle.brk_ref.specs.declared.security.Security.{Security}
-use Rattle.brk_store.proofs.Retelling.{retold}
-use Rattle.brk_store.proofs.Sequences.{failed_after, none_read, read_with, read_with_reads, unchanged_after}
+use Rattle.brk_store_reads.proofs.Retelling.{retold}
+use Rattle.brk_store_reads.proofs.Sequences.{failed_after, none_read, read_with, read_with_reads, unchanged_after}
 use Rattle.brk_view_rows.specs.declared.view.View.{View}
 use Rattle.brk_desk_queries.specs.LookedUp.{HaveAllRowsOfTrades}
 use Rattle.brk_desk_queries.specs.QueryResults.{AnswersQueryAsModel}
 use Rattle.brk_desk_queries.proofs.LookupViews.{is_trade_of_symbol_in_span, no_symbol_trades, symbol_trades_seen}
 use Rattle.std.proofs.lemmas.Result.{err_from_is_err_and}
-use Rattle.brk_store.specs.ReadSequences.{joined_reads_change_nothing, single_read_changes_nothing}
+use Rattle.brk_store_reads.specs.ReadSequences.{joined_reads_change_nothing, single_read_changes_nothing}
 use Rattle.brk_desk_queries.proofs.lookups.symbol_trades_view.Goals as goal
 
 -- the security with a symbol

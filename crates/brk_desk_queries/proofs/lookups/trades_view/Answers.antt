@@ -10,14 +10,14 @@ use Rattle.brk_ref.specs.declared.trade_row.TradeRow.{TradeRow}
 use Rattle.brk_model.specs.Joins.{trade_row_with_id}
 use Rattle.brk_model.specs.Queries.{TradesWith}
 use Rattle.brk_model.specs.Tables.{Tables}
-use Rattle.brk_store.proofs.Sequences.{none_read, read_with_reads}
+use Rattle.brk_store_reads.proofs.Sequences.{none_read, read_with_reads}
 use Rattle.brk_trade_books.specs.TradeReads.{AreTradesWithIds}
 use Rattle.brk_view_rows.specs.declared.view.View.{View}
 use Rattle.brk_desk_queries.specs.LookedUp.{HaveAllRowsOfTrades}
 use Rattle.brk_desk_queries.specs.QueryResults.{AnswersQueryAsModel}
 use Rattle.brk_desk_queries.proofs.LookupViews.{no_trades, trades_seen}
 use Rattle.std.proofs.lemmas.Result.{err_from_is_err_and}
-use Rattle.brk_store.specs.ReadSequences.{joined_reads_change_nothing, single_read_changes_nothing}
+use Rattle.brk_store_reads.specs.ReadSequences.{joined_reads_change_nothing, single_read_changes_nothing}
 use Rattle.brk_desk_queries.proofs.lookups.trades_view.Goals as goal
 
 -- what is found of the trades with some ids

@@ -4,7 +4,7 @@ use Rattle.brk_money.specs.declared.status.Status.TheVariants.{Submitted}
 use Rattle.brk_model.specs.Queries.{SubmittedTrades}
 use Rattle.brk_model.specs.Tables.{Tables, TradeRow}
 use Rattle.brk_ref.specs.Rows.{abstract_trade_row}
-use Rattle.brk_store.proofs.Retelling.{retold}
+use Rattle.brk_store_reads.proofs.Retelling.{retold}
 use Rattle.brk_desk_queries.specs.QueryResults.{AnswersQueryAsModel}
 use Rattle.brk_desk_queries.proofs.OrderViews.{submitted_shown}
 use Rattle.brk_desk_queries.proofs.orders.submitted_view.Goals as goal

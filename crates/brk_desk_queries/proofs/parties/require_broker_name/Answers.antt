@@ -3,7 +3,7 @@ use Rattle.std.specs.Option.{option_map_or}
 use Rattle.brk_model.specs.StatusView.{broker_name_with_id}
 use Rattle.brk_model.specs.Tables.{BrokerRow, Tables}
 use Rattle.brk_ref.specs.Records.{abstract_broker_row}
-use Rattle.brk_store.proofs.Retelling.{retold}
+use Rattle.brk_store_reads.proofs.Retelling.{retold}
 use Rattle.brk_desk_queries.proofs.parties.require_broker_name.Goals as goal
 
 pub returns-in-Some : goal.returns-in-Some

@@ -3,12 +3,12 @@ use Rattle.brk_money.specs.declared.fault.CallFault.{CallFault}
 use Rattle.brk_model.specs.StatusView.{broker_name_with_id}
 use Rattle.brk_model.specs.Tables.{Tables}
 use Rattle.brk_ref.specs.Records.{abstract_account_row, abstract_customer}
-use Rattle.brk_store.proofs.Sequences.{failed_after, read_with}
+use Rattle.brk_store_reads.proofs.Sequences.{failed_after, read_with}
 use Rattle.brk_store_required.specs.Required.{IsCustomerWithId}
 use Rattle.brk_view_rows.specs.declared.statuses.AccountStatus.{AccountStatus}
 use Rattle.brk_desk_queries.specs.Parties.{IsAccountStatusWithTrades}
 use Rattle.std.proofs.lemmas.Result.{err_from_is_err_and}
-use Rattle.brk_store.specs.ReadSequences.{single_read_changes_nothing}
+use Rattle.brk_store_reads.specs.ReadSequences.{single_read_changes_nothing}
 use Rattle.brk_desk_queries.proofs.parties.status_with_parties.Goals as goal
 
 pub returns : goal.returns

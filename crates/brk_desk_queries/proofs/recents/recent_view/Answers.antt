@@ -8,13 +8,13 @@ use Rattle.brk_model.specs.Queries.{RecentOf}
 use Rattle.brk_model.specs.Tables.{Tables}
 use Rattle.brk_ref.specs.Records.{abstract_account_row}
 use Rattle.brk_ref.specs.declared.account.AccountRow.{AccountRow}
-use Rattle.brk_store.proofs.Retelling.{retold}
+use Rattle.brk_store_reads.proofs.Retelling.{retold}
 use Rattle.brk_view_rows.specs.declared.view.View.{View}
 use Rattle.brk_desk_queries.specs.QueryResults.{AnswersQueryAsModel}
 use Rattle.brk_desk_queries.proofs.RecentViews.{AreRecentTradesWithHistory, no_account, recent_seen}
 use Rattle.std.proofs.lemmas.Result.{err_from_is_err_and}
-use Rattle.brk_store.specs.ReadSequences.{single_read_changes_nothing}
-use Rattle.brk_store.proofs.Sequences.{failed_after, none_read, read_with, unchanged_after}
+use Rattle.brk_store_reads.specs.ReadSequences.{single_read_changes_nothing}
+use Rattle.brk_store_reads.proofs.Sequences.{failed_after, none_read, read_with, unchanged_after}
 use Rattle.brk_desk_queries.proofs.recents.recent_view.Goals as goal
 
 pub returns-in_default : goal.returns-in_default

@@ -6,13 +6,13 @@ use Rattle.brk_model.specs.Tables.{AccountRow, Tables}
 use Rattle.brk_ref.specs.declared.account.AccountRow as account
 use Rattle.brk_ref.specs.Records.{abstract_account_row}
 use Rattle.brk_trade_books.proofs.Places.{find-at}
-use Rattle.brk_store.proofs.Retelling.{retold}
+use Rattle.brk_store_reads.proofs.Retelling.{retold}
 use Rattle.brk_store_required.specs.Valuation.{market_value_of_account}
-use Rattle.brk_store.proofs.Sequences.{failed_after, read_with}
+use Rattle.brk_store_reads.proofs.Sequences.{failed_after, read_with}
 use Rattle.brk_desk_queries.specs.Heads.{IsStatementHeadOfAccount}
 use Rattle.brk_desk_queries.specs.declared.statement_head.Head.{Head}
 use Rattle.std.proofs.lemmas.Result.{err_from_is_err_and}
-use Rattle.brk_store.specs.ReadSequences.{single_read_changes_nothing}
+use Rattle.brk_store_reads.specs.ReadSequences.{single_read_changes_nothing}
 use Rattle.brk_desk_queries.proofs.statement_head.account_head.Goals as goal
 
 -- the worth of what the account with an id holds

@@ -4,8 +4,8 @@ use Rattle.brk_money.specs.declared.fault.CallFault.{CallFault}
 use Rattle.brk_ref.specs.Rows.{abstract_trade_row}
 use Rattle.brk_model.specs.Joins.{trade_rows_recent_first, trade_rows_of_account}
 use Rattle.brk_model.specs.Tables.{Tables}
-use Rattle.brk_store.proofs.Retelling.{retold}
-use Rattle.brk_store.proofs.Sequences.{read_with}
+use Rattle.brk_store_reads.proofs.Retelling.{retold}
+use Rattle.brk_store_reads.proofs.Sequences.{read_with}
 use Rattle.brk_view_rows.specs.Status.{rows_of_trade_status, trade_row_with_security}
 use Rattle.brk_view_rows.specs.declared.statuses.TradeStatus.{TradeStatus}
 use Rattle.brk_desk_queries.proofs.Each.{all_made, map_map, none_made}

@@ -3,7 +3,7 @@ use Rattle.std.specs.Prelude.{bytes_eq}
 use Rattle.brk_ref.specs.Rows.{abstract_trade_row}
 use Rattle.brk_model.specs.Tables.{SecurityRow, Tables}
 use Rattle.brk_ref.specs.Records.{abstract_security_row}
-use Rattle.brk_store.proofs.Retelling.{retold}
+use Rattle.brk_store_reads.proofs.Retelling.{retold}
 use Rattle.brk_view_rows.specs.Status.{rows_of_trade_status, trade_row_with_security}
 use Rattle.brk_desk_queries.proofs.StatusViews.{carried_in}
 use Rattle.brk_desk_queries.proofs.statuses.trade_with_security.Goals as goal

@@ -2,7 +2,7 @@ use Rattle.std.proofs.Common.{◌≡◌, ◌==◌, Some, ap, find, option_map}
 use Rattle.std.specs.Option.{option_map_or}
 use Rattle.brk_ref.specs.Rows.{abstract_trade_row}
 use Rattle.brk_model.specs.Tables.{Tables, TradeRow}
-use Rattle.brk_store.proofs.Retelling.{retold}
+use Rattle.brk_store_reads.proofs.Retelling.{retold}
 use Rattle.brk_desk_queries.specs.Touched.{last_status_stamp}
 use Rattle.brk_desk_queries.proofs.touched_lots.require_stamp.Goals as goal
 

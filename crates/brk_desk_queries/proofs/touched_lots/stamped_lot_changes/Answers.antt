@@ -4,14 +4,14 @@ use Rattle.brk_money.specs.declared.fault.CallFault.{CallFault}
 use Rattle.brk_ref.specs.Rows.{abstract_lot_change_row}
 use Rattle.brk_ref.specs.declared.lot_change.LotChange.{LotChange}
 use Rattle.brk_model.specs.Tables.{HoldingHistoryRow, Tables}
-use Rattle.brk_store.proofs.Retelling.{retold}
+use Rattle.brk_store_reads.proofs.Retelling.{retold}
 use Rattle.brk_view_rows.specs.Lots.{stamped_lot_change}
 use Rattle.brk_view_rows.specs.declared.touched_lots.LotTouch.{LotTouch}
 use Rattle.brk_desk_queries.specs.Touched.{stamped_changes_of_lot, last_status_stamp}
 use Rattle.brk_desk_queries.proofs.Each.{list_more, map_map}
 use Rattle.std.proofs.lemmas.Result.{err_from_is_err_and}
-use Rattle.brk_store.specs.ReadSequences.{single_read_changes_nothing}
-use Rattle.brk_store.proofs.Sequences.{failed_after, none_read, read_with, unchanged_after}
+use Rattle.brk_store_reads.specs.ReadSequences.{single_read_changes_nothing}
+use Rattle.brk_store_reads.proofs.Sequences.{failed_after, none_read, read_with, unchanged_after}
 use Rattle.brk_desk_queries.proofs.touched_lots.stamped_lot_changes.Goals as goal
 
 -- the first changes of a lot

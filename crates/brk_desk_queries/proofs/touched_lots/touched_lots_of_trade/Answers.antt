@@ -5,15 +5,15 @@ use Rattle.brk_ref.specs.Rows.{abstract_lot_change_row}
 use Rattle.brk_ref.specs.declared.lot_change.LotChange.{LotChange}
 use Rattle.brk_model.specs.Lists.{sort_by}
 use Rattle.brk_model.specs.Tables.{HoldingHistoryRow, Tables}
-use Rattle.brk_store.proofs.Retelling.{retold}
+use Rattle.brk_store_reads.proofs.Retelling.{retold}
 use Rattle.brk_view_rows.specs.Lots.{is_earlier_lot_change}
 use Rattle.brk_view_rows.specs.declared.touched_lots.LotTouch.{LotTouch}
 use Rattle.brk_view_rows.specs.declared.touched_lots.TouchedLots.{TouchedLots}
 use Rattle.brk_desk_queries.specs.Touched.{AreTouchedLotsOfTrade, stamped_changes_of_lot}
 use Rattle.brk_desk_queries.proofs.LotViews.{all_done, kept_more, none_kept}
 use Rattle.std.proofs.lemmas.Result.{err_from_is_err_and}
-use Rattle.brk_store.specs.ReadSequences.{single_read_changes_nothing}
-use Rattle.brk_store.proofs.Sequences.{failed_after, none_read, read_with, unchanged_after}
+use Rattle.brk_store_reads.specs.ReadSequences.{single_read_changes_nothing}
+use Rattle.brk_store_reads.proofs.Sequences.{failed_after, none_read, read_with, unchanged_after}
 use Rattle.brk_desk_queries.proofs.touched_lots.touched_lots_of_trade.Goals as goal
 
 -- the last changes that a trade made are done: the first of what became of their lots are kept

@@ -8,14 +8,14 @@ use Rattle.brk_model.specs.Queries.{LotsTouched}
 use Rattle.brk_model.specs.Tables.{Tables}
 use Rattle.brk_ref.specs.Records.{abstract_account_row}
 use Rattle.brk_ref.specs.declared.account.AccountRow.{AccountRow}
-use Rattle.brk_store.proofs.Retelling.{retold}
-use Rattle.brk_store.proofs.Sequences.{failed_after, read_with, unchanged_after}
+use Rattle.brk_store_reads.proofs.Retelling.{retold}
+use Rattle.brk_store_reads.proofs.Sequences.{failed_after, read_with, unchanged_after}
 use Rattle.brk_view_rows.specs.declared.view.View.{View}
 use Rattle.brk_desk_queries.specs.QueryResults.{AnswersQueryAsModel}
 use Rattle.brk_desk_queries.specs.Touched.{AreTouchedLotsOfTrade}
 use Rattle.brk_desk_queries.proofs.LotViews.{IsFirstTradeSince, lots_seen, no_lots, none_seen}
 use Rattle.std.proofs.lemmas.Result.{err_from_is_err_and}
-use Rattle.brk_store.specs.ReadSequences.{single_read_changes_nothing}
+use Rattle.brk_store_reads.specs.ReadSequences.{single_read_changes_nothing}
 use Rattle.brk_desk_queries.proofs.touched_lots.touched_lots_view.Goals as goal
 
 -- the account with an id

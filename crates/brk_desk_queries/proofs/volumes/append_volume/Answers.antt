@@ -4,7 +4,7 @@ use Rattle.std.proofs.lemmas.List.{append-nil}
 use Rattle.brk_ref.specs.Rows.{abstract_request_row}
 use Rattle.brk_model.specs.Tables.{BrokerRow, Tables}
 use Rattle.brk_ref.specs.Records.{abstract_broker_row}
-use Rattle.brk_store.proofs.Sequences.{reads_retold}
+use Rattle.brk_store_reads.proofs.Sequences.{reads_retold}
 use Rattle.brk_view_rows.specs.Volume.{request_value_at_bid}
 use Rattle.brk_view_rows.specs.declared.volumes.BrokerVolume.{BrokerVolume}
 use Rattle.brk_desk_queries.specs.Volumes.{is_sector_request_of_broker, volumes_of_brokers_in_sector}

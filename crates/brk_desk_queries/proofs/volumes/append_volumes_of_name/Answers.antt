@@ -9,8 +9,8 @@ use Rattle.brk_model.specs.Tables as tables
 use Rattle.brk_model.specs.Tables.{Tables}
 use Rattle.brk_ref.specs.Records.{abstract_broker_row}
 use Rattle.brk_ref.specs.declared.broker.BrokerRow.{BrokerRow}
-use Rattle.brk_store.proofs.Retelling.{retold}
-use Rattle.brk_store.proofs.Sequences.{read_with_reads}
+use Rattle.brk_store_reads.proofs.Retelling.{retold}
+use Rattle.brk_store_reads.proofs.Sequences.{read_with_reads}
 use Rattle.brk_view_rows.specs.declared.volumes.BrokerVolume.{BrokerVolume}
 use Rattle.brk_desk_queries.specs.Volumes.{volumes_of_brokers_in_sector}
 use Rattle.brk_desk_queries.proofs.VolumeViews.{volume_more}

@@ -6,14 +6,14 @@ use Rattle.brk_money.specs.declared.fault.CallFault.{CallFault}
 use Rattle.brk_ref.specs.Rows.{abstract_request_row}
 use Rattle.brk_ref.specs.declared.request_row.RequestRow.{RequestRow}
 use Rattle.brk_model.specs.Tables.{BrokerRow, Tables}
-use Rattle.brk_store.proofs.Retelling.{retold}
-use Rattle.brk_store.proofs.Sequences.{failed_after, read_with}
+use Rattle.brk_store_reads.proofs.Retelling.{retold}
+use Rattle.brk_store_reads.proofs.Sequences.{failed_after, read_with}
 use Rattle.brk_view_rows.specs.Volume as volume
 use Rattle.brk_view_rows.specs.declared.volumes.BrokerVolume.{BrokerVolume}
 use Rattle.brk_desk_queries.specs.Volumes.{brokers_of_name_in_sector, volumes_of_brokers_in_sector}
 use Rattle.brk_desk_queries.proofs.VolumeViews.{name_more}
 use Rattle.std.proofs.lemmas.Result.{err_from_is_err_and}
-use Rattle.brk_store.specs.ReadSequences.{single_read_changes_nothing}
+use Rattle.brk_store_reads.specs.ReadSequences.{single_read_changes_nothing}
 use Rattle.brk_desk_queries.proofs.volumes.named_volumes.Goals as goal
 
 -- what the brokers with the first names have to trade

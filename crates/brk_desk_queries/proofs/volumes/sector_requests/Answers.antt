@@ -5,7 +5,7 @@ use Rattle.brk_money.specs.declared.fault.CallFault.{CallFault}
 use Rattle.brk_ref.specs.Rows.{abstract_request_row}
 use Rattle.brk_ref.specs.declared.request_row.RequestRow.{RequestRow}
 use Rattle.brk_model.specs.Tables.{Tables}
-use Rattle.brk_store.proofs.Sequences.{no_reads, reads_both, reads_retold}
+use Rattle.brk_store_reads.proofs.Sequences.{no_reads, reads_both, reads_retold}
 use Rattle.brk_desk_queries.specs.Volumes.{is_sector_request_of_broker, requests_with_row_if_of_broker_in_sector}
 use Rattle.brk_desk_queries.proofs.VolumeViews.{request_more}
 use Rattle.brk_desk_queries.proofs.volumes.sector_requests.Goals as goal

@@ -1,7 +1,7 @@
 use Rattle.std.proofs.Common.{◌≡◌, Ok, filter, map, take}
 use Rattle.brk_money.specs.declared.fault.CallFault.{CallFault}
 use Rattle.brk_ref.specs.Rows.{abstract_request_row}
-use Rattle.brk_store.specs.ReadSequences.{ReadSequencePost}
+use Rattle.brk_store_reads.specs.ReadSequences.{ReadSequencePost}
 use Rattle.brk_desk_queries.specs.Volumes.{is_sector_request_of_broker}
 use Rattle.brk_desk_queries.proofs.volumes.sector_requests.Given as goal
 

@@ -2,7 +2,7 @@ use Rattle.std.proofs.Common.{◌≡◌, Ok, map}
 use Rattle.std.specs.Prelude.{flat_map}
 use Rattle.brk_model.specs.Queries.{VolumeOf}
 use Rattle.brk_model.specs.Tables.{Tables}
-use Rattle.brk_store.proofs.Retelling.{retold}
+use Rattle.brk_store_reads.proofs.Retelling.{retold}
 use Rattle.brk_view_rows.specs.Volume as volume
 use Rattle.brk_desk_queries.specs.QueryResults.{AnswersQueryAsModel}
 use Rattle.brk_desk_queries.specs.Volumes.{brokers_of_name_in_sector}

@@ -3,12 +3,12 @@ use Rattle.brk_money.specs.declared.fault.CallFault.{CallFault}
 use Rattle.brk_ref.specs.Rows.{abstract_summary_row}
 use Rattle.brk_ref.specs.declared.summary_row.SummaryRow as row
 use Rattle.brk_model.specs.Tables.{SummaryRow, Tables}
-use Rattle.brk_store.proofs.Retelling.{retold}
+use Rattle.brk_store_reads.proofs.Retelling.{retold}
 use Rattle.brk_model_explain.specs.AccountLines.{priced_holding, priced_holdings_of_account}
 use Rattle.brk_explain_rows.specs.Details.{abstract_priced_holding}
 use Rattle.brk_explain_rows.specs.declared.account_details.PricedHolding.{PricedHolding}
 use Rattle.brk_explain_reads.proofs.Each.{all_made, map_map, none_made, popped}
-use Rattle.brk_store.proofs.Sequences.{read_with, none_read}
+use Rattle.brk_store_reads.proofs.Sequences.{read_with, none_read}
 use Rattle.brk_explain_reads.proofs.Reading.{both_change_nothing}
 use Rattle.std.proofs.lemmas.Result.{err_from_is_err_and}
 use Rattle.brk_explain_reads.proofs.accounts.read_priced_holdings.Goals as goal

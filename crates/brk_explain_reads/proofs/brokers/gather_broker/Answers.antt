@@ -3,10 +3,10 @@ use Rattle.brk_money.specs.declared.fault.CallFault.{CallFault}
 use Rattle.brk_model.specs.Tables.{AccountRow, BrokerRow, Tables}
 use Rattle.brk_ref.specs.Records.{abstract_broker_row}
 use Rattle.brk_ref.specs.declared.broker.BrokerRow as row
-use Rattle.brk_store.proofs.Retelling.{retold}
+use Rattle.brk_store_reads.proofs.Retelling.{retold}
 use Rattle.brk_explain_rows.specs.Details.{AreDetailsOfBroker}
 use Rattle.brk_explain_rows.specs.declared.broker_details.BrokerDetails.{BrokerDetails}
-use Rattle.brk_store.proofs.Sequences.{read_with, none_read}
+use Rattle.brk_store_reads.proofs.Sequences.{read_with, none_read}
 use Rattle.brk_explain_reads.proofs.Reading.{both_change_nothing}
 use Rattle.brk_explain_reads.proofs.Skipped.{length_map}
 use Rattle.std.proofs.lemmas.Result.{err_from_is_err_and}

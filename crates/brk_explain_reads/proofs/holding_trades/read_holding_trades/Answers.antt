@@ -8,7 +8,7 @@ use Rattle.brk_ref.specs.Rows.{abstract_trade_row}
 use Rattle.brk_ref.specs.declared.trade_row.TradeRow as trade
 use Rattle.brk_model.specs.Joins.{trade_row_with_id}
 use Rattle.brk_model.specs.Tables.{Tables}
-use Rattle.brk_store.proofs.Retelling.{retold, retold_of}
+use Rattle.brk_store_reads.proofs.Retelling.{retold, retold_of}
 use Rattle.brk_store.proofs.WalkedLists.{trades_climb}
 use Rattle.brk_model_explain.specs.Holdings as model
 use Rattle.brk_explain_rows.specs.Details.{abstract_lot_details}
@@ -16,7 +16,7 @@ use Rattle.brk_explain_rows.specs.declared.holding_details.LotDetails.{LotDetail
 use Rattle.brk_explain_reads.specs.HoldingParts.{AreTradesAndLotsOfHolding, IsTradeWithLot, lot_opened_by_trade}
 use Rattle.brk_explain_reads.proofs.ById.{done_known, flat_one, held_ids, lots_known}
 use Rattle.brk_explain_reads.proofs.Each.{first_more, map_map, one_more}
-use Rattle.brk_store.proofs.Sequences.{read_with, none_read}
+use Rattle.brk_store_reads.proofs.Sequences.{read_with, none_read}
 use Rattle.brk_explain_reads.proofs.Reading.{both_change_nothing}
 use Rattle.brk_explain_reads.proofs.TermParts.{one_by_one}
 use Rattle.std.proofs.lemmas.Result.{err_from_is_err_and}

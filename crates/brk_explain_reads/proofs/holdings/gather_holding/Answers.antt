@@ -9,13 +9,13 @@ use Rattle.brk_model.specs.Tables.{AccountRow, SecurityRow, Tables}
 use Rattle.brk_ref.specs.Records.{abstract_account_row, abstract_security_row}
 use Rattle.brk_ref.specs.declared.account.AccountRow as row
 use Rattle.brk_ref.specs.declared.security.Security as security
-use Rattle.brk_store.proofs.Retelling.{retold}
+use Rattle.brk_store_reads.proofs.Retelling.{retold}
 use Rattle.brk_explain_rows.specs.Details.{AreDetailsOfHolding}
 use Rattle.brk_explain_rows.specs.declared.holding_details.HoldingDetails.{HoldingDetails}
 use Rattle.brk_explain_reads.specs.HoldingParts.{AreTradesAndLotsOfHolding, AreQuantityAndPrice}
-use Rattle.brk_store.proofs.Sequences.{read_with, none_read}
+use Rattle.brk_store_reads.proofs.Sequences.{read_with, none_read}
 use Rattle.brk_explain_reads.proofs.Reading.{read_failed, both_change_nothing}
-use Rattle.brk_store.specs.ReadSequences.{joined_reads_change_nothing, single_read_changes_nothing}
+use Rattle.brk_store_reads.specs.ReadSequences.{joined_reads_change_nothing, single_read_changes_nothing}
 use Rattle.brk_explain_reads.proofs.holdings.gather_holding.Goals as goal
 
 -- the account with an id, and the security with a symbol

@@ -7,7 +7,7 @@ use Rattle.brk_model.specs.Joins.{last_price_in_tables}
 use Rattle.brk_model.specs.Tables.{SummaryRow, Tables}
 use Rattle.brk_explain_reads.specs.HoldingParts.{AreQuantityAndPrice}
 use Rattle.brk_explain_reads.specs.declared.holdings.QuantityAndPrice.{QuantityAndPrice}
-use Rattle.brk_store.proofs.Sequences.{read_with, none_read}
+use Rattle.brk_store_reads.proofs.Sequences.{read_with, none_read}
 use Rattle.brk_explain_reads.proofs.Reading.{both_change_nothing}
 use Rattle.std.proofs.lemmas.Result.{err_from_is_err_and}
 use Rattle.brk_explain_reads.proofs.holdings.read_quantity_with_price.Goals as goal

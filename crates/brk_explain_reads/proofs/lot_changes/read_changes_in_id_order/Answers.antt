@@ -4,7 +4,7 @@ use Rattle.brk_money.specs.declared.fault.CallFault.{CallFault}
 use Rattle.brk_ref.specs.Rows as rows
 use Rattle.brk_ref.specs.declared.lot_change.LotChange.{LotChange}
 use Rattle.brk_model.specs.Tables.{HoldingHistoryRow, Tables}
-use Rattle.brk_store.proofs.Retelling.{retold}
+use Rattle.brk_store_reads.proofs.Retelling.{retold}
 use Rattle.brk_model_explain.specs.Holdings.{recorded_lot_change}
 use Rattle.brk_explain_rows.specs.Details.{abstract_priced_lot_change}
 use Rattle.brk_explain_rows.specs.declared.holding_details.PricedLotChange.{PricedLotChange}
@@ -12,7 +12,7 @@ use Rattle.brk_explain_reads.specs.HoldingParts.{AreLotChangesByTradeId}
 use Rattle.brk_explain_reads.specs.declared.lot_changes.OpeningAndLaterChanges.{OpeningAndLaterChanges}
 use Rattle.brk_explain_reads.proofs.Changes.{steps_known}
 use Rattle.brk_explain_reads.proofs.Each.{one_more}
-use Rattle.brk_store.proofs.Sequences.{read_with, none_read}
+use Rattle.brk_store_reads.proofs.Sequences.{read_with, none_read}
 use Rattle.brk_explain_reads.proofs.Reading.{both_change_nothing}
 use Rattle.std.proofs.lemmas.Result.{err_from_is_err_and}
 use Rattle.brk_explain_reads.proofs.lot_changes.read_changes_in_id_order.Goals as goal

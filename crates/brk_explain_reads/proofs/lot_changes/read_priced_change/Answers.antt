@@ -3,7 +3,7 @@ use Rattle.brk_ref.specs.Rows as rows
 use Rattle.brk_ref.specs.Rows.{abstract_trade_row}
 use Rattle.brk_model.specs.Joins.{trade_row_with_id}
 use Rattle.brk_model.specs.Tables.{Tables}
-use Rattle.brk_store.proofs.Retelling.{retold}
+use Rattle.brk_store_reads.proofs.Retelling.{retold}
 use Rattle.brk_model_explain.specs.Holdings.{recorded_lot_change}
 use Rattle.brk_explain_rows.specs.Details.{abstract_priced_lot_change}
 use Rattle.brk_explain_reads.proofs.Changes.{step_known}

@@ -7,10 +7,10 @@ use Rattle.brk_ref.specs.Records.{abstract_account_row, abstract_security_row}
 use Rattle.brk_model_explain.specs.Trades.{sorted_statuses_of_trade}
 use Rattle.brk_explain_rows.specs.declared.details.OrderDetails.{OrderDetails}
 use Rattle.brk_explain_reads.specs.Found.{IsOrderOfTrade}
-use Rattle.brk_store.proofs.Sequences.{read_with, none_read}
+use Rattle.brk_store_reads.proofs.Sequences.{read_with, none_read}
 use Rattle.brk_explain_reads.proofs.Reading.{both_change_nothing}
 use Rattle.std.proofs.lemmas.Result.{err_from_is_err_and}
-use Rattle.brk_store.specs.ReadSequences.{joined_reads_change_nothing, single_read_changes_nothing}
+use Rattle.brk_store_reads.specs.ReadSequences.{joined_reads_change_nothing, single_read_changes_nothing}
 use Rattle.brk_explain_reads.proofs.orders.read_order_details.Goals as goal
 
 pub returns : goal.returns

@@ -4,7 +4,7 @@ use Rattle.brk_ref.specs.Rows.{abstract_history_row}
 use Rattle.brk_ref.specs.declared.history_row.HistoryRow as row
 use Rattle.brk_model.specs.Lists.{sort_by}
 use Rattle.brk_model.specs.Tables.{HistoryRow, Tables}
-use Rattle.brk_store.proofs.Retelling.{retold}
+use Rattle.brk_store_reads.proofs.Retelling.{retold}
 use Rattle.brk_model_explain.specs.Trades.{sorted_statuses_of_trade}
 use Rattle.brk_explain_reads.proofs.Sorted.{map_sorted}
 use Rattle.brk_explain_reads.proofs.orders.read_statuses.Goals as goal

@@ -7,10 +7,10 @@ use Rattle.brk_model.specs.Tables.{SettlementRow, Tables}
 use Rattle.brk_model_explain.specs.Trades.{zero_settlement_row}
 use Rattle.brk_explain_reads.specs.Found.{IsSettlementAndCashOfTrade}
 use Rattle.brk_explain_reads.specs.declared.settled.SettlementAndCash.{SettlementAndCash}
-use Rattle.brk_store.proofs.Sequences.{read_with, none_read}
+use Rattle.brk_store_reads.proofs.Sequences.{read_with, none_read}
 use Rattle.brk_explain_reads.proofs.Reading.{both_change_nothing}
 use Rattle.std.proofs.lemmas.Result.{err_from_is_err_and}
-use Rattle.brk_store.specs.ReadSequences.{joined_reads_change_nothing, single_read_changes_nothing}
+use Rattle.brk_store_reads.specs.ReadSequences.{joined_reads_change_nothing, single_read_changes_nothing}
 use Rattle.brk_explain_reads.proofs.settled.read_settlement.Goals as goal
 
 pub returns : goal.returns

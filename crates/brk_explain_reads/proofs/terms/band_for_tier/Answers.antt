@@ -5,7 +5,7 @@ use Rattle.brk_ref.specs.Rows.{abstract_trade_row}
 use Rattle.brk_model.specs.Records.{Band}
 use Rattle.brk_model.specs.Tables.{Tables}
 use Rattle.brk_ref.specs.Records.{abstract_band}
-use Rattle.brk_store.proofs.Retelling.{retold}
+use Rattle.brk_store_reads.proofs.Retelling.{retold}
 use Rattle.brk_model_explain.specs.Trades.{band_for_tier_and_exchange}
 use Rattle.brk_explain_reads.proofs.TermParts.{band_known}
 use Rattle.brk_explain_reads.proofs.terms.band_for_tier.Goals as goal

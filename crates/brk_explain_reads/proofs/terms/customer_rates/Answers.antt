@@ -6,10 +6,10 @@ use Rattle.brk_model.specs.Tables.{Tables}
 use Rattle.brk_ref.specs.Records.{abstract_customer_tax, abstract_tax_rate}
 use Rattle.brk_ref.specs.declared.customer_tax.CustomerTax as ref
 use Rattle.brk_ref.specs.declared.tax.Tax.{Tax}
-use Rattle.brk_store.proofs.Retelling.{retold}
+use Rattle.brk_store_reads.proofs.Retelling.{retold}
 use Rattle.brk_model_explain.specs.Trades.{tax_rates_of_customer}
 use Rattle.brk_explain_reads.proofs.Each.{map_map, one_more}
-use Rattle.brk_store.proofs.Sequences.{read_with, none_read}
+use Rattle.brk_store_reads.proofs.Sequences.{read_with, none_read}
 use Rattle.brk_explain_reads.proofs.Reading.{both_change_nothing}
 use Rattle.brk_explain_reads.proofs.TermParts.{one_by_one}
 use Rattle.std.proofs.lemmas.Result.{err_from_is_err_and}

@@ -7,10 +7,10 @@ use Rattle.brk_ref.specs.Records.{abstract_band, abstract_customer, abstract_sec
 use Rattle.brk_model_explain.specs.Trades.{band_for_customer_and_security, band_for_tier_and_exchange, tax_rates_of_customer}
 use Rattle.brk_explain_reads.specs.Found.{AreTaxRatesAndBand}
 use Rattle.brk_explain_reads.specs.declared.terms.TaxRatesAndBand.{TaxRatesAndBand}
-use Rattle.brk_store.proofs.Sequences.{read_with, none_read}
+use Rattle.brk_store_reads.proofs.Sequences.{read_with, none_read}
 use Rattle.brk_explain_reads.proofs.Reading.{both_change_nothing}
 use Rattle.std.proofs.lemmas.Result.{err_from_is_err_and}
-use Rattle.brk_store.specs.ReadSequences.{joined_reads_change_nothing, single_read_changes_nothing}
+use Rattle.brk_store_reads.specs.ReadSequences.{joined_reads_change_nothing, single_read_changes_nothing}
 use Rattle.brk_explain_reads.proofs.terms.read_tax_rates_with_band.Goals as goal
 
 pub returns : goal.returns

@@ -3,11 +3,11 @@ use Rattle.brk_money.specs.declared.fault.CallFault.{CallFault}
 use Rattle.brk_ref.specs.Rows.{abstract_trade_row}
 use Rattle.brk_ref.specs.declared.trade_row.TradeRow as row
 use Rattle.brk_model.specs.Tables.{Tables, TradeRow}
-use Rattle.brk_store.proofs.Retelling.{retold}
+use Rattle.brk_store_reads.proofs.Retelling.{retold}
 use Rattle.brk_explain_rows.specs.Details.{AreDetailsOfTrade}
 use Rattle.brk_explain_rows.specs.declared.details.TradeDetails.{TradeDetails}
 use Rattle.brk_explain_reads.specs.Found.{IsOrderOfTrade, IsResultOfOrder}
-use Rattle.brk_store.proofs.Sequences.{read_with, none_read}
+use Rattle.brk_store_reads.proofs.Sequences.{read_with, none_read}
 use Rattle.brk_explain_reads.proofs.Reading.{read_failed, both_change_nothing}
 use Rattle.std.proofs.lemmas.Result.{err_from_is_err_and}
 use Rattle.brk_explain_reads.proofs.DetailParts.{details_completed, details_ordered}

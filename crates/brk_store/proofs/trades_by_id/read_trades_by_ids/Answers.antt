@@ -8,7 +8,7 @@ use Rattle.brk_model.specs.Joins.{trade_row_with_id}
 use Rattle.brk_model.specs.Tables.{Tables, TradeRow}
 use Rattle.brk_ref.specs.Rows.{abstract_trade_row}
 use Rattle.brk_ref.specs.declared.trade_row.TradeRow as row
-use Rattle.brk_store.proofs.Sequences.{no_reads, one_read, reads_both, reads_failed, reads_retold, unchanged_after}
+use Rattle.brk_store_reads.proofs.Sequences.{no_reads, one_read, reads_both, reads_failed, reads_retold, unchanged_after}
 use Rattle.brk_trade_books.specs.TradeReads.{AreTradesWithIds}
 use Rattle.brk_store.proofs.TradesFound.{one_more, some_missing}
 use Rattle.std.proofs.lemmas.Result.{err_from_is_err_and}

@@ -2,7 +2,7 @@ use Rattle.std.proofs.Common.{◌≡◌, Ok, Some, map, take}
 use Rattle.brk_money.specs.declared.fault.CallFault.{CallFault}
 use Rattle.brk_model.specs.Joins.{trade_row_with_id}
 use Rattle.brk_ref.specs.Rows.{abstract_trade_row}
-use Rattle.brk_store.specs.ReadSequences.{ReadSequencePost}
+use Rattle.brk_store_reads.specs.ReadSequences.{ReadSequencePost}
 use Rattle.brk_store.proofs.trades_by_id.read_trades_by_ids.Given as goal
 
 abbrev pub invariant-loop-id : goal.invariant-loop-id

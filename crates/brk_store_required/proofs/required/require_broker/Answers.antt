@@ -2,7 +2,7 @@ use Rattle.std.proofs.Common.{◌≡◌, ◌==◌, Some, find, option_map, sym}
 use Rattle.brk_model.specs.Tables.{BrokerRow, Tables}
 use Rattle.brk_ref.specs.Records.{abstract_broker_row}
 use Rattle.brk_store_required.specs.Required.{IsBrokerWithId}
-use Rattle.brk_store.proofs.Retelling.{retold}
+use Rattle.brk_store_reads.proofs.Retelling.{retold}
 use Rattle.brk_store_required.proofs.required.require_broker.Goals as goal
 
 pub returns-in-Some : goal.returns-in-Some

@@ -3,7 +3,7 @@ use Rattle.brk_model.specs.Records.{Customer}
 use Rattle.brk_model.specs.Tables.{Tables}
 use Rattle.brk_ref.specs.Records.{abstract_customer}
 use Rattle.brk_store_required.specs.Required.{IsCustomerWithId}
-use Rattle.brk_store.proofs.Retelling.{retold}
+use Rattle.brk_store_reads.proofs.Retelling.{retold}
 use Rattle.brk_store_required.proofs.required.require_customer.Goals as goal
 
 pub returns-in-Some : goal.returns-in-Some

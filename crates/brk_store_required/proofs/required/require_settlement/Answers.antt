@@ -1,7 +1,7 @@
 use Rattle.std.proofs.Common.{◌≡◌, ◌==◌, Some, find, option_map, sym}
 use Rattle.brk_model.specs.Tables.{SettlementRow, Tables}
 use Rattle.brk_ref.specs.Rows.{abstract_settlement_row}
-use Rattle.brk_store.proofs.Retelling.{retold}
+use Rattle.brk_store_reads.proofs.Retelling.{retold}
 use Rattle.brk_store_required.proofs.required.require_settlement.Goals as goal
 
 pub returns-in-Some : goal.returns-in-Some

@@ -1,7 +1,7 @@
 use Rattle.std.proofs.Common.{◌≡◌}
 use Rattle.brk_model.specs.Tables.{Tables}
 use Rattle.brk_store_required.specs.Valuation.{AreValuedSummariesOfAccount, market_value_of_account}
-use Rattle.brk_store.proofs.Retelling.{retold}
+use Rattle.brk_store_reads.proofs.Retelling.{retold}
 use Rattle.brk_store_required.proofs.valuation.read_holdings_value.Goals as goal
 
 pub returns : goal.returns

@@ -8,11 +8,11 @@ use Rattle.brk_ref.specs.Rows.{abstract_summary_row}
 use Rattle.brk_ref.specs.declared.summary_row.SummaryRow.{SummaryRow}
 use Rattle.brk_store_required.specs.Valuation.{AreValuedSummariesOfAccount, market_value_of_summary}
 use Rattle.brk_store_required.specs.declared.valuation.ValuedSummaries.{ValuedSummaries}
-use Rattle.brk_store.proofs.Retelling.{retold}
-use Rattle.brk_store.proofs.Sequences.{failed_after, read_with}
+use Rattle.brk_store_reads.proofs.Retelling.{retold}
+use Rattle.brk_store_reads.proofs.Sequences.{failed_after, read_with}
 use Rattle.brk_store_required.proofs.MarketValues.{total_by-none, worth_more}
 use Rattle.std.proofs.lemmas.Result.{err_from_is_err_and}
-use Rattle.brk_store.specs.ReadSequences.{single_read_changes_nothing}
+use Rattle.brk_store_reads.specs.ReadSequences.{single_read_changes_nothing}
 use Rattle.brk_store_required.proofs.valuation.read_valued_summaries.Goals as goal
 
 -- the worth of the first rows, which are an account's

@@ -4,7 +4,7 @@ use Rattle.std.specs.Option.{option_map_or}
 use Rattle.brk_model.specs.Joins.{last_price_in_tables}
 use Rattle.brk_model.specs.Tables.{LastTradeRow, Tables}
 use Rattle.brk_ref.specs.Records.{abstract_last_trade_row}
-use Rattle.brk_store.proofs.Retelling.{retold}
+use Rattle.brk_store_reads.proofs.Retelling.{retold}
 use Rattle.brk_store_required.proofs.valuation.require_last_price.Goals as goal
 
 pub returns-in-Some : goal.returns-in-Some

@@ -15,11 +15,11 @@ returns-clause-first_lot g c told ls h =
     let page = c.in_ok-page.page.items in
     let rows = lot_rows_in_closing_order self.lifo self.account self.symbol.now h.0 in
     let count : after.read ≡ self.read + length page = c.in_ok-page.ensures.counted in
-    let ended : nat_lt c.len.result 16 ≡ nat_lt (length page) 16 = search rules in
+    let ended : nat_lt c.len.result 4 ≡ nat_lt (length page) 4 = search rules in
     let none : drop self.page.returned self.page.rows.items ≡ [] = drop_all self.page.returned self.page.rows.items (search rules) in
     let left : ls ≡ map lot_of_row (drop self.read rows) = h.2 ∙ ap (λ p. remaining_lots p self.ended self.read rows) none ∙ ap (λ b. remaining_lots [] b self.read rows) c.if-self.false in
     let first : c.match-first.first ≡ option_map lot_of_typed_row (slice_get page 0) = elim c.match-first.branch [ in-Some w ↦ search rules | in-None w ↦ search rules ] in
     rw c.in_ok-page.ensures.same
     (turned g.S.Store after.store.now self.lifo self.account self.symbol.now h.0 (c.in_ok-page.ensures.store.same_rows h.0 h.1) self.read after.read page
-    (nat_lt c.len.result 16) c.match-first.first ls
+    (nat_lt c.len.result 4) c.match-first.first ls
     (c.in_ok-page.ensures.rows told h.0 h.1) count ended first left)

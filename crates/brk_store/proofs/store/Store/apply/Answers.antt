@@ -6,8 +6,8 @@ use Rattle.brk_store.proofs.store.Store.apply.Goals as goal
 pub invariant_of-self : goal.invariant_of-self
 invariant_of-self g c = (
   c.in-Ok.ensures.mode,
-  index_after_changes g.S.Store c.self.inside.conn c.apply_changes.new.conn c.self.inside.known c.self.inside.index c.index_after_changes.result
-      (tables_after_changes c.args.changes.now) c.in-Ok.ensures.applied (rw c.take.ensures.value at c.index_after_changes.ensures) c.self.invariant.1,
+  index_after_changes g.S.Store c.self.inside.conn c.apply_changes.new.conn c.self.inside.index c.index_after_changes.result
+      (tables_after_changes c.args.changes.now) c.in-Ok.ensures.applied (rw c.replace-index.ensures.value at c.index_after_changes.ensures) c.self.invariant.1,
 )
 
 pub returns-in-Ok : goal.returns-in-Ok

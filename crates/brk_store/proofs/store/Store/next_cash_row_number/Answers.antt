@@ -2,7 +2,7 @@ use Rattle.std.proofs.Common.{◌≡◌, ◌∙◌, ◌+◌, ℕ, Option, ap, op
 use Rattle.brk_model.specs.Tables.{CashRow, Tables}
 use Rattle.brk_trade_books.specs.TradeReads.{last_cash_row_number_or_zero}
 use Rattle.brk_ref.specs.Rows.{abstract_cash_row}
-use Rattle.brk_store.proofs.Retelling.{retold}
+use Rattle.brk_store_reads.proofs.Retelling.{retold}
 use Rattle.brk_store.proofs.store.Store.next_cash_row_number.Goals as goal
 use Rattle.brk_store.proofs.store.Store.next_cash_row_number.Goals.{in-Some, in-None}
 

@@ -4,8 +4,8 @@ use Rattle.brk_model.specs.Limits.{greatest_id}
 use Rattle.brk_model.specs.Tables.{CashRow, Tables}
 use Rattle.brk_trade_books.specs.TradeReads.{last_cash_row_number_or_zero}
 use Rattle.brk_store.proofs.Counting.{too_few}
-use Rattle.brk_store.proofs.Retelling.{retold_of}
-use Rattle.brk_store.proofs.Sequences.{read_with}
+use Rattle.brk_store_reads.proofs.Retelling.{retold_of}
+use Rattle.brk_store_reads.proofs.Sequences.{read_with}
 use Rattle.brk_store.proofs.store.Store.next_movement_number.Goals as goal
 
 abbrev IsNext : ℕ → Tables → Type 0

@@ -1,4 +1,4 @@
-use Rattle.brk_store.proofs.ByAges.{then_read}
+use Rattle.brk_store_reads.proofs.ByAges.{then_read}
 use Rattle.brk_store.proofs.store.Store.page_of_lots.Goals as goal
 
 pub returns : goal.returns

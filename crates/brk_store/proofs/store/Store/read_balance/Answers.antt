@@ -3,7 +3,7 @@ use Rattle.brk_money.specs.declared.cents.Cents.{Cents}
 use Rattle.brk_model.specs.Tables.{AccountRow, Tables}
 use Rattle.brk_ref.specs.declared.account.AccountRow as account
 use Rattle.brk_ref.specs.Records.{abstract_account_row}
-use Rattle.brk_store.proofs.Retelling.{retold}
+use Rattle.brk_store_reads.proofs.Retelling.{retold}
 use Rattle.brk_store.proofs.store.Store.read_balance.Goals as goal
 
 pub returns-in-Some : goal.returns-in-Some

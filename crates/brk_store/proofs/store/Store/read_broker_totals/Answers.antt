@@ -4,7 +4,7 @@ use Rattle.brk_ref.specs.declared.broker.BrokerRow as broker
 use Rattle.brk_ref.specs.Records.{abstract_broker_row}
 use Rattle.brk_trade_rows.specs.declared.broker_totals.BrokerTotals.{BrokerTotals}
 use Rattle.brk_store.specs.Numbers.{AreBrokerTotals}
-use Rattle.brk_store.proofs.Retelling.{retold}
+use Rattle.brk_store_reads.proofs.Retelling.{retold}
 use Rattle.brk_store.proofs.store.Store.read_broker_totals.Goals as goal
 
 pub returns-in_default : goal.returns-in_default

@@ -1,0 +1,11 @@
+pub mod Elements
+pub mod Rising
+pub mod Placing
+pub mod Places
+pub mod Trading
+pub mod Aged
+pub mod Changing
+pub mod Ordered
+pub mod Spans
+pub mod PositionLots
+pub mod TradeLists

@@ -1,0 +1,4 @@
+pub mod Ages
+pub mod Groups
+pub mod Index
+pub mod Parts

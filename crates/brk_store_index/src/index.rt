@@ -1,0 +1,153 @@
+//! The index: made of rows, updated by row changes, and read by group.
+
+ghost use Rattle.std.specs.Prelude.{◌≡◌, ℕ, IfOk, List, OnOk, [], map};
+ghost use Rattle.std.specs.Option.{option_copied};
+ghost use Rattle.brk_money.specs.Kinds.{is_same_trade_status};
+ghost use Rattle.brk_money.specs.declared.status.Status.TheVariants.{Submitted};
+ghost use Rattle.brk_trade_rows.specs.Changes.{tables_after_change, tables_after_changes};
+ghost use Rattle.brk_ref.specs.Records.{abstract_account_row};
+ghost use Rattle.brk_ref.specs.Rows.{abstract_holding_row, abstract_lot_change_row, abstract_trade_row};
+ghost use Rattle.brk_model.specs.Tables.{Tables};
+ghost use Rattle.brk_store_index.specs.Ages.{ages_in};
+ghost use Rattle.brk_store_index.specs.Index.{HasRowsOf, IsIndexOf, abstract_group, ages_at, number_of_lots};
+ghost use Rattle.brk_store_index.specs.Parts.{AreAccountsOf, AreLotChangesOf};
+
+use crate::age::RowAge;
+use crate::by_number::AgesByNumber;
+use crate::group::Group;
+use crate::lost::IndexLost;
+use crate::lots::LotGroups;
+use crate::trades::TradeGroups;
+use brk_money::Status;
+use brk_ref::{AccountRow, HoldingRow, LotChange, TradeRow};
+use brk_trade_rows::Change;
+use std::alloc::Global;
+use std::collections::VecDeque;
+
+/// The ages of the rows of each group (`Group`), the oldest first.
+#[derive(Drop)]
+pub struct RowIndex {
+    lots: LotGroups,
+    trades: TradeGroups,
+    accounts: AgesByNumber,
+    changes: AgesByNumber,
+}
+
+fn is_submitted(status: Status) -> bool
+    ensures { result ≡ is_same_trade_status status Submitted }
+{
+    status == Status::Submitted
+}
+
+// Fails also if two accounts of a customer have one id.
+fn accounts_of_rows(alloc: Global, rows: &[AccountRow]) -> Result<AgesByNumber, IndexLost>
+    ensures { IfOk result (λ accounts. AreAccountsOf accounts (map abstract_account_row rows.now)) }
+{
+    let mut accounts = AgesByNumber::new(alloc);
+    for row in rows {
+        accounts.insert(row.account.customer.get(), RowAge::of_id(row.account.id))?;
+    }
+    Ok(accounts)
+}
+
+// Fails also if a trade changed a lot twice.
+fn changes_of_rows(alloc: Global, rows: &[LotChange]) -> Result<AgesByNumber, IndexLost>
+    ensures { IfOk result (λ changes. AreLotChangesOf changes (map abstract_lot_change_row rows.now)) }
+{
+    let mut changes = AgesByNumber::new(alloc);
+    for row in rows {
+        changes.insert(row.trade.get(), RowAge::of_id(row.lot))?;
+    }
+    Ok(changes)
+}
+
+impl RowIndex {
+    pub fn new(alloc: Global) -> RowIndex
+        ensures { (t : Tables) → HasRowsOf t [] [] [] [] → IsIndexOf result t }
+    {
+        RowIndex {
+            lots: LotGroups::new(alloc),
+            trades: TradeGroups::new(alloc),
+            accounts: AgesByNumber::new(alloc),
+            changes: AgesByNumber::new(alloc),
+        }
+    }
+
+    /// Creates the index of all rows of HOLDING, TRADE, CUSTOMER_ACCOUNT and HOLDING_HISTORY. Fails
+    /// also if two rows of a table have one key.
+    pub fn of_rows(
+        alloc: Global,
+        lots: &[HoldingRow],
+        trades: &[TradeRow],
+        accounts: &[AccountRow],
+        changes: &[LotChange],
+    ) -> Result<RowIndex, IndexLost>
+        ensures { IfOk result (λ index. (t : Tables)
+            → HasRowsOf t (map abstract_holding_row lots.now) (map abstract_trade_row trades.now) (map abstract_account_row accounts.now) (map abstract_lot_change_row changes.now)
+            → IsIndexOf index t) }
+    {
+        Ok(RowIndex {
+            lots: LotGroups::of_rows(alloc, lots)?,
+            trades: TradeGroups::of_rows(alloc, trades)?,
+            accounts: accounts_of_rows(alloc, accounts)?,
+            changes: changes_of_rows(alloc, changes)?,
+        })
+    }
+
+    fn update_one(&mut self, change: &Change) -> Result<(), IndexLost>
+        ensures { OnOk result ((t : Tables) → IsIndexOf self.old t → IsIndexOf self.new (tables_after_change change.now t)) }
+    {
+        match change {
+            Change::AddLot(lot) => self.lots.add(lot),
+            Change::RemoveLot(trade) => self.lots.remove(*trade),
+            Change::AddTrade(trade) => self.trades.add(trade),
+            Change::SetStatus {
+                trade,
+                status,
+                stamp,
+            } => self
+                .trades
+                .set_status(*trade, is_submitted(*status), *stamp),
+            Change::CompleteTrade { trade, stamp, .. } => {
+                self.trades.set_status(*trade, false, *stamp)
+            }
+            Change::AddAccount(account) => self
+                .accounts
+                .insert(account.customer.get(), RowAge::of_id(account.id)),
+            Change::AddLotChange(change) => self
+                .changes
+                .insert(change.trade.get(), RowAge::of_id(change.lot)),
+            _ => Ok(()),
+        }
+    }
+
+    /// Changes the index as `changes` change the rows.
+    pub fn update(&mut self, changes: &[Change]) -> Result<(), IndexLost>
+        ensures { OnOk result ((t : Tables) → IsIndexOf self.old t → IsIndexOf self.new (tables_after_changes changes.now t)) }
+    {
+        for change in changes {
+            self.update_one(change)?;
+        }
+        Ok(())
+    }
+
+    pub fn number_of_lots(&self) -> usize
+        ensures { result ≡ number_of_lots self.now }
+    {
+        self.lots.len()
+    }
+
+    /// Returns the ages of the rows of a group, the oldest first.
+    pub fn ages(&self, group: &Group<'_>) -> Option<&VecDeque<RowAge>>
+        ensures { ages_in (option_copied result) ≡ ages_at self.now (abstract_group group.now) }
+    {
+        match group {
+            Group::Position(account, symbol) => self.lots.positions.ages(account.get(), symbol),
+            Group::TradesOfAccount(account) => self.trades.accounts.ages(account.get()),
+            Group::TradesOfSymbol(symbol) => self.trades.ages_of_symbol(symbol),
+            Group::SubmittedTrades => Some(&self.trades.submitted),
+            Group::AccountsOfCustomer(customer) => self.accounts.ages(customer.get()),
+            Group::LotChangesOfTrade(trade) => self.changes.ages(trade.get()),
+        }
+    }
+}

@@ -1,0 +1,18 @@
+//! An index of rows in memory: for each group of rows that is read, such as the trades of an account,
+//! the ages of its rows, the oldest first. An age is a stamp with an id.
+#![tactic(auto)]
+
+pub mod age;
+pub mod ages;
+mod by_number;
+mod by_position;
+pub mod group;
+pub mod index;
+pub mod lost;
+mod lots;
+mod trades;
+
+pub use age::RowAge;
+pub use group::Group;
+pub use index::RowIndex;
+pub use lost::IndexLost;

@@ -1,0 +1,4 @@
+pub mod Retelling
+pub mod Sequences
+pub mod ReadResults
+pub mod ByAges

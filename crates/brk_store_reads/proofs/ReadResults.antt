@@ -1,0 +1,66 @@
+-- Results that follow from the rows of a read.
+use Rattle.std.proofs.Common.{◌≡◌, Result, Ok, Err, IfOk, subst}
+use Rattle.std.specs.Prelude.{OnOk}
+use Rattle.sqlite_trees.specs.declared.store.Store.{Ghosts}
+use Rattle.sqlite.specs.Held.{Held, state}
+use Rattle.sqlite.specs.State.{HasCleanDisk}
+use Rattle.brk_model.specs.Tables.{Tables}
+use Rattle.brk_store_transactions.specs.Holds.{HoldsRows, ReadPost}
+use Rattle.brk_store_reads.specs.ReadSequences.{IsUnchangedByReads, disk_was_clean_before_reads}
+use Rattle.brk_store_reads.proofs.Retelling.{retold}
+use Rattle.brk_store_reads.proofs.Sequences.{none_then, read_with, same_then}
+
+module _ {S : Type 0} (g : Ghosts S) (old mid : Held S) where
+  -- an answer that follows from what was read; or no memory for it
+  pub decided : {V X E F : Type 0} (v : V) (P : V → Tables → Type 0) (R : X → Tables → Type 0) (result : Result X F) → ReadPost {E = E} g old mid (Ok v) P
+      → IfOk result (λ x. (t : Tables) → P v t → R x t) → ReadPost g old mid result R
+  decided v P R (Ok x) read tell = retold g old mid v x P R tell read
+  decided v P R (Err fault) read none =
+      record { answered = λ clean. tt; was_open = λ clean. tt; same_rows = read.same_rows; unchanged_if_open = read.unchanged_if_open; survives = read.survives }
+
+-- an answer that follows from what four reads returned
+pub decided_by_four : {S V W X Y Z E F G H I : Type 0} (g : Ghosts S) (a b c d e : Held S) (v : V) (w : W) (x : X) (y : Y) (P : V → Tables → Type 0) (Q : W → Tables → Type 0) (R : X → Tables → Type 0) (T : Y → Tables → Type 0)
+    (M : Z → Tables → Type 0) (result : Result Z I) → ReadPost {E = E} g a b (Ok v) P → ReadPost {E = F} g b c (Ok w) Q → ReadPost {E = G} g c d (Ok x) R → ReadPost {E = H} g d e (Ok y) T
+    → IfOk result (λ z. (t : Tables) → P v t → Q w t → R x t → T y t → M z t) → ReadPost g a e result M
+decided_by_four {S} {V} {W} {X} {Y} {Z} {E} {F} {G} {H} {I} g a b c d e v w x y P Q R T M result one two three four tell =
+    let PQ = λ (vw : V × W) (t : Tables). P vw.0 t × Q vw.1 t in
+    let PQR = λ (vwx : (V × W) × X) (t : Tables). PQ vwx.0 t × R vwx.1 t in
+    let All = λ (all : ((V × W) × X) × Y) (t : Tables). PQR all.0 t × T all.1 t in
+    let second = read_with g a b c {H = F} v w (v, w) P Q PQ (λ t p q. (p, q)) one two in
+    let third = read_with g a c d {H = G} (v, w) x ((v, w), x) PQ R PQR (λ t p q. (p, q)) second three in
+    let fourth = read_with g a d e {H = H} ((v, w), x) y (((v, w), x), y) PQR T All (λ t p q. (p, q)) third four in
+    decided g a e (((v, w), x), y) All M result fourth (told result tell)
+  where
+    told : (r : Result Z I) → IfOk r (λ z. (t : Tables) → P v t → Q w t → R x t → T y t → M z t)
+        → IfOk r (λ z. (t : Tables) → ((P v t × Q w t) × R x t) × T y t → M z t)
+    told (Ok z) f = λ t h. f t h.0.0.0 h.0.0.1 h.0.1 h.1
+    told (Err i) f = tt
+
+module _ {S : Type 0} (g : Ghosts S) (old mid end : Held S) where
+  -- an answer that follows from what was read, and from what was read on in a store that is kept
+  pub decided_on : {V X E F : Type 0} (v : V) (P : V → Tables → Type 0) (R : X → Tables → Type 0) (result : Result X F) → ReadPost {E = E} g old mid (Ok v) P → IsUnchangedByReads g mid end
+      → (HasCleanDisk (state g end) → IfOk result (λ x. (t : Tables) → HoldsRows g mid t → P v t → R x t)) → ReadPost g old end result R
+  decided_on {V} {X} {E} {F} v P R result read on tell = record {
+    answered = λ clean. answered (disk_was_clean_before_reads mid end on clean) result (tell clean);
+    was_open = λ clean. was_open (read.was_open (disk_was_clean_before_reads mid end on clean)) result;
+    same_rows = λ t h. on.same_rows t (read.same_rows t h);
+    unchanged_if_open = λ clean o. let s = on.unchanged_if_open clean o in
+        same_then (state g old) (state g mid) (state g end) (read.unchanged_if_open (disk_was_clean_before_reads mid end on clean) s.was_open) s;
+    survives = none_then (state g old) (state g mid) (state g end) (λ _. ⊥) read.survives on.survives;
+  } where
+    answered : HasCleanDisk (state g mid) → (r : Result X F) → IfOk r (λ x. (t : Tables) → HoldsRows g mid t → P v t → R x t) → IfOk r (λ x. (t : Tables) → HoldsRows g old t → R x t)
+    answered clean (Ok x) tell = λ t h. tell t (read.same_rows t h) (read.answered clean t h)
+    answered clean (Err fault) tell = tt
+
+    was_open : {Q : Type 0} → Q → (r : Result X F) → OnOk r Q
+    was_open q (Ok x) = q
+    was_open q (Err fault) = tt
+
+-- ---- what is known of a store by another name
+
+module _ {S : Type 0} (g : Ghosts S) (old mid end : Held S) (same : mid ≡ end) where
+  pub kept_at : IsUnchangedByReads g old mid → IsUnchangedByReads g old end
+  kept_at k = subst (λ (h : Held S). IsUnchangedByReads g old h) same k
+
+  pub read_at : {V E : Type 0} (result : Result V E) (Told : V → Tables → Type 0) → ReadPost g old mid result Told → ReadPost g old end result Told
+  read_at result Told read = subst (λ (h : Held S). ReadPost g old h result Told) same read

@@ -1,0 +1,32 @@
+use Rattle.std.proofs.Common.{◌≡◌, ◌∙◌, ◌==◌, ◌&&◌, Some, ap, find, option_map, refl, rules, true}
+use Rattle.std.specs.Prelude.{bytes_eq}
+use Rattle.brk_model.specs.Tables.{TradeRow, Tables}
+use Rattle.brk_ref.specs.Rows.{abstract_trade_row}
+use Rattle.brk_store_index.specs.Index.{row_of_age, value_if}
+use Rattle.brk_store_reads.specs.ReadSequences.{single_read_changes_nothing}
+use Rattle.brk_store_reads.proofs.Retelling.{retold}
+use Rattle.brk_store_reads.proofs.Sequences.{none_read}
+use Rattle.brk_store_reads.proofs.trades_by_age.TradesOfSymbolRowsByAgeTradeRow.row_of_age.Goals as goal
+
+pub returns-in_default-clause-read : goal.returns-in_default-clause-read
+returns-in_default-clause-read g c =
+    none_read g.S.Store c.args.conn.now c.read_trade_by_id.new.conn _ _
+    (single_read_changes_nothing c.args.conn.now c.read_trade_by_id.new.conn c.read_trade_by_id.result _ c.read_trade_by_id.ensures.read)
+
+pub returns-then-not-is_trade_of_symbol-clause-read : goal.returns-then-not-is_trade_of_symbol-clause-read
+returns-then-not-is_trade_of_symbol-clause-read g c =
+    none_read g.S.Store c.args.conn.now c.read_trade_by_id.new.conn _ _
+    (single_read_changes_nothing c.args.conn.now c.read_trade_by_id.new.conn c.read_trade_by_id.result _ c.read_trade_by_id.ensures.read)
+
+pub returns-clause-read : goal.returns-clause-read
+returns-clause-read g c =
+    let age = c.args.age.now in
+    let row = c.in-Some.row in
+    let test = λ (r : TradeRow). bytes_eq r.symbol c.args.self.now.symbol.now && (r.stamp == age.stamp) in
+    let passes : test (abstract_trade_row row) ≡ true = search rules in
+    let kept : Some (abstract_trade_row row) ≡ value_if test (Some (abstract_trade_row row)) = rw passes refl in
+    retold g.S.Store c.args.conn.now c.read_trade_by_id.new.conn (Some row) row
+    (λ o (t : Tables). option_map abstract_trade_row o ≡ find (λ (r : TradeRow). r.id == age.id) t.trades)
+    (λ r (t : Tables). Some (abstract_trade_row r) ≡ row_of_age (λ (r : TradeRow). r.id) (λ a (r : TradeRow). bytes_eq r.symbol c.args.self.now.symbol.now && (r.stamp == a.stamp)) t.trades age)
+    (λ t e. kept ∙ ap (value_if test) e)
+    (rw c.in-Some.is at c.in_ok-row.ensures.read)

@@ -1,0 +1,2 @@
+pub mod ReadSequences
+pub mod RowsByAge

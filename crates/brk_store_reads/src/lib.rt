@@ -1,0 +1,8 @@
+//! Reads of a database on a connection: sequences of reads, and rows that an index in memory finds,
+//! each read by its key.
+#![tactic(auto)]
+
+pub mod accounts_by_age;
+pub mod by_age;
+mod chosen_ages;
+pub mod trades_by_age;

@@ -1,0 +1,31 @@
+-- Written by tools/generate/tables.py: the meaning of a SELECT.
+use Rattle.std.proofs.Common.{ℕ, pos, negsuc, List, [], ◌∷◌, codes, false, None, Some, refl}
+use Rattle.sqlite.specs.declared.types.Value.TheVariants.{Int}
+use Rattle.sqlite_sql.specs.declared.ops.CompareOp.TheVariants.{Eq}
+use Rattle.sqlite.specs.Term.{Term, lit}
+use Rattle.sqlite_tied.specs.Compute.{everything}
+use Rattle.brk_tables_sql.proofs.Conditions.{compares, single, also}
+use Rattle.brk_tables_sql.proofs.Asked.{Ask, IsAsked, IsPlain, asks_plainly}
+use Rattle.brk_tables_schema.specs.Shapes.{holding_history_table}
+
+abbrev pub statement : List ℕ
+statement = codes "SELECT HH_H_T_ID, HH_T_ID, HH_BEFORE_QTY, HH_AFTER_QTY FROM HOLDING_HISTORY WHERE HH_H_T_ID = ?1 AND HH_T_ID = ?2 ORDER BY HH_H_T_ID, HH_T_ID"
+
+abbrev pub ask : Ask
+ask = record {
+  shown = 0 ∷ 1 ∷ 2 ∷ 3 ∷ [];
+  tests = Some (also (single (compares Eq 0 1)) (compares Eq 1 2));
+  by = (0, false) ∷ (1, false) ∷ [];
+  limit = None;
+  offset = None;
+}
+
+abbrev pub paging : Term × Term
+paging = (lit (Int (negsuc 0)), lit (Int (pos 0)))
+
+pub is_asked : IsAsked holding_history_table statement ask paging
+unfolding everything
+is_asked = record { reads = λ tree. (refl, refl, refl); sound = λ tree. refl; paged = λ schema tree. refl }
+
+pub plain : IsPlain statement
+plain = asks_plainly holding_history_table statement ask paging is_asked
