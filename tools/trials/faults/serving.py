@@ -40,7 +40,7 @@ class Server:
         while time.monotonic() < until:
             try:
                 return socket.create_connection(("127.0.0.1", self.port), SECONDS)
-            except ConnectionRefusedError:
+            except (ConnectionRefusedError, ConnectionResetError):
                 if self.process.poll() is not None:
                     return None
                 time.sleep(0.002)
