@@ -1,4 +1,4 @@
--- Trades, accounts and lot changes that are read by the index are those of the tables.
+-- A read by the index returns the trades, accounts and lot changes of the tables.
 use Rattle.std.proofs.Common.{◌≡◌, ◌∙◌, ◌==◌, ◌&&◌, ◌+◌, ◌-◌, ◌<◌, ◌≤◌, ℕ, zero, suc, Bool, true, false, List, [], ◌∷◌, Option, Some, None, Result, IsTrue}
 use Rattle.std.proofs.Common.{drop, filter, find, length, map, min, option_map, refl, slice_get, sym, ap, subst, take, arith, inl, inr}
 use Rattle.std.specs.Prelude.{nat_le, option_to_list}

@@ -215,7 +215,7 @@ module _ {Row : Type 0} (id_of stamp_of : Row → ℕ) where
       (λ z h. sorted_has id_of later back apart rows z (has_sorted id_of is_row_older onward total rows z (has_reversed (sort_by is_row_older rows) z h)))
 
   module _ (rows : List Row) (up : RisesBy id_of rows) (ages : List RowAge) (are : AreAgesOf ages (map row_age rows)) where
-    -- the ages are those of the rows that are sorted by age
+    -- the ages belong to the rows that are sorted by age
     pub ages_are : ages ≡ map row_age (sort_by is_row_older rows)
     ages_are =
         let sorted = sort_by is_row_older rows in

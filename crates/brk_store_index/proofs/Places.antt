@@ -237,7 +237,7 @@ module _ {Row Place : Type 0} (id_of : Row → ℕ) (place_of : Row → Place) w
       go [] others = refl
       go (x ∷ xs) others = ap₂ (λ z zs. z ∷ zs) (ap (λ b. cond b (set x) x) (others x (inl refl))) (go xs (λ r h. others r (inr h)))
 
-  -- ages that follow the places are those of the rows
+  -- ages that follow the places are the ages of the rows
   module _ (places : ℕ → Option Place) (rows : List Row) (are : ArePlacesOf id_of place_of places rows) (is_in : Place → Bool) (stamp_of : Place → ℕ) where
     abbrev age_of : Row → RowAge
     age_of r = age (stamp_of (place_of r)) (id_of r)

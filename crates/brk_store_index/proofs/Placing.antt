@@ -60,7 +60,7 @@ put_over old mid new k x taken put q = put q ∙ ap (cond (k == q) (Some x)) (ta
     go true = refl
     go false = refl
 
--- `ages` are those of the number `k` now, and nothing else has changed
+-- the number `k` has the ages `ages` now, and nothing else has changed
 module _ (old new : ℕ → Option (VecDeque RowAge Global)) (k : ℕ) (ages : VecDeque RowAge Global) (x : RowAge) (put : (q : ℕ) → new q ≡ cond (k == q) (Some ages) (old q)) where
   here : (P : List RowAge → List RowAge → Type 0) (q : ℕ) → (k == q) ≡ true → P (ages_in (old k)) ages.items → P (ages_in (old q)) (ages_in (new q))
   here P q e p =
@@ -99,7 +99,7 @@ number_none old new k x none taken q = go (k == q) refl
         rw (was, is) (nothing_removed x)
     go false e = ap ages_in (taken q ∙ ap (λ b. cond b None (old q)) e)
 
--- `ages` are those of the position now, and nothing else has changed
+-- the position has the ages `ages` now, and nothing else has changed
 module _ (old new : AgesByPosition) (number : ℕ) (symbol : Text) (ages : List RowAge) (x : RowAge) (put : ages_of_position new number symbol ≡ ages)
     (others : (other : ℕ) (name : Text) → is_same_position number symbol other name ≡ false → ages_of_position new other name ≡ ages_of_position old other name) where
   position_is : (other : ℕ) (name : Text) → is_same_position number symbol other name ≡ true → (number ≡ other) × (symbol ≡ name)

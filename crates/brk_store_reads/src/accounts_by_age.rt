@@ -49,6 +49,7 @@ fn is_account_of_customer(row: &AccountRow, customer: Id) -> bool
     row.account.customer == customer
 }
 
+/// The accounts of a customer. An age has the stamp 0.
 #[derive(Clone, Copy)]
 pub struct AccountsOfCustomer {
     pub customer: Id,
@@ -72,6 +73,7 @@ impl<S: Alter> RowsByAge<S, AccountRow> for AccountsOfCustomer {
     }
 }
 
+/// The changes of lots by a trade. An age has the stamp 0, and the trade that opened the lot.
 #[derive(Clone, Copy)]
 pub struct LotChangesOfTrade {
     pub trade: Id,

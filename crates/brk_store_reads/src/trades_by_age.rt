@@ -42,6 +42,7 @@ fn is_trade_of_account(row: &TradeRow, account: Id, stamp: Stamp) -> bool
     row.account == account && row.stamp == stamp
 }
 
+/// The trades of an account. An age has the stamp of the last status.
 #[derive(Clone, Copy)]
 pub struct TradesOfAccount {
     pub account: Id,
@@ -68,6 +69,7 @@ fn is_trade_of_symbol(row: &TradeRow, symbol: &Symbol, stamp: Stamp) -> bool
     row.symbol.as_str() == symbol.as_str() && row.stamp == stamp
 }
 
+/// The trades in a security. An age has the stamp of the last status.
 #[derive(Clone, Copy)]
 pub struct TradesOfSymbol<'a> {
     pub symbol: &'a Symbol,
@@ -93,6 +95,7 @@ fn is_submitted(row: &TradeRow) -> bool
     row.status == Status::Submitted
 }
 
+/// The trades with the status submitted. An age has the stamp 0.
 #[derive(Clone, Copy)]
 pub struct SubmittedTrades;
 
