@@ -928,6 +928,7 @@ STATEMENTS = {
         (select, 'HistoryOf', 'history', [('TH_T_ID', 1)], [('TH_T_ID', False), ('TH_ST_ID', False)]),
         (select, 'RequestsOfSymbol', 'request', [('TR_S_SYMB', 1)], [('TR_T_ID', False)]),
         (select, 'LastTradeBySymbol', 'last_trade', [('LT_S_SYMB', 1)], [('LT_S_SYMB', False)]),
+        (select, 'LastTradesBySymbol', 'last_trade', [], [('LT_S_SYMB', False)]),
         (update, 'SetLastTrade', 'last_trade', [('LT_DTS', 1), ('LT_PRICE', 2), ('LT_VOL', 3)], [('LT_S_SYMB', 4)]),
         (update, 'SetStatus', 'trade', [('T_ST_ID', 1), ('T_DTS', 2)], [('T_ID', 3)]),
         (update, 'CompleteTrade', 'trade', [('T_ST_ID', 1), ('T_DTS', 2), ('T_TRADE_PRICE', 3), ('T_COMM', 4), ('T_TAX', 5)], [('T_ID', 6)]),

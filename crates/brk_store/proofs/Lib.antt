@@ -7,4 +7,5 @@ pub mod KeptIndex
 pub mod AdoptedReads
 pub mod ByIndex
 pub mod TradesByIndex
+pub mod ValuesByIndex
 pub mod Definitions

@@ -1,25 +1,25 @@
 //! The index of a store in memory: made from its tables, and kept over changes.
 
-ghost use Rattle.std.specs.Prelude.{◌≡◌, IfOk, IsTrue, OnErr, OnOk, false, map, true};
+ghost use Rattle.std.specs.Prelude.{◌≡◌, IfOk, IfSome, IsTrue, OnErr, OnOk, false, map, true};
 ghost use Rattle.sqlite.specs.Effect.{Database};
 ghost use Rattle.sqlite.specs.Held.{state};
 ghost use Rattle.sqlite.specs.State.{HasCleanDisk};
 ghost use Rattle.brk_trade_rows.specs.Changes.{tables_after_changes};
-ghost use Rattle.brk_ref.specs.Records.{abstract_account_row};
-ghost use Rattle.brk_ref.specs.Rows.{abstract_holding_row, abstract_lot_change_row, abstract_trade_row};
-ghost use Rattle.brk_store_index.specs.Index.{IsIndexOf};
+ghost use Rattle.brk_ref.specs.Rows.{abstract_summary_row};
+ghost use Rattle.brk_store_index.specs.Prices.{market_value_of_summary};
+ghost use Rattle.brk_model.specs.Lists.{total_by};
 ghost use Rattle.brk_model.specs.Tables.{Tables};
-ghost use Rattle.brk_store_transactions.specs.Holds.{ReadPost};
 ghost use Rattle.brk_store.specs.Indexed.{IndexIsTrue, IsIndexOfDatabase};
 ghost use Rattle.brk_store.specs.declared.index.StoreIndex.TheVariants.{Unmade};
 ghost use Rattle.brk_store_reads.specs.ReadSequences.{IsUnchangedByReads};
 ghost use Rattle.brk_tables_schema.specs.Made.{HasDeskTables};
 
 use crate::Store;
-use brk_money::{CallFault, StoreFailed};
-use brk_ref::{AccountRow, HoldingRow, LotChange, TradeRow};
+use brk_money::{StoreFailed, Wide};
+use brk_ref::SummaryRow;
 use brk_store_index::RowIndex;
-use brk_store_transactions::{begin_transaction, require_open};
+use brk_store_reads::row_index::read_row_index;
+use brk_store_transactions::require_open;
 use brk_trade_rows::Change;
 use sqlite::{Alter, Connection};
 use std::alloc::Global;
@@ -34,6 +34,19 @@ pub(crate) enum StoreIndex {
     Absent,
 }
 
+impl StoreIndex {
+    // Returns `None` if there is no index, a security has no last price, or the value overflows.
+    pub(crate) fn market_value(&self, rows: &[SummaryRow]) -> Option<Wide>
+        ensures { (db : Database) (t : Tables) → IsIndexOfDatabase self.now db → HasDeskTables t db
+            → IfSome result (λ value. value ≡ total_by (market_value_of_summary t) (map abstract_summary_row rows.now)) }
+    {
+        match self {
+            StoreIndex::Made(index) => index.market_value(rows),
+            StoreIndex::Unmade | StoreIndex::Absent => None,
+        }
+    }
+}
+
 /// An index that could not be updated is dropped, and may be made again.
 pub(crate) fn index_after_changes(index: StoreIndex, changes: &[Change]) -> StoreIndex
     ensures { (a b : Database) → ((t : Tables) → HasDeskTables t a → HasDeskTables (tables_after_changes changes.now t) b)
@@ -46,74 +59,6 @@ pub(crate) fn index_after_changes(index: StoreIndex, changes: &[Change]) -> Stor
         },
         StoreIndex::Unmade => StoreIndex::Unmade,
         StoreIndex::Absent => StoreIndex::Absent,
-    }
-}
-
-#[tactic(auto, using(brk_store_transactions::proofs::Ending::read_is_over))]
-fn read_all_lots<S: Alter>(
-    conn: &mut Connection<S>,
-    alloc: Global,
-) -> Result<Vec<HoldingRow>, CallFault>
-    requires { conn.old.in_transaction ≡ false }
-    ensures mode { conn.new.in_transaction ≡ false }
-    ensures read { ReadPost S.Store conn.old conn.new result (λ all t. map abstract_holding_row all.items ≡ t.holdings) }
-{
-    let mut tx = begin_transaction(conn);
-    brk_tables_trading::all_lots(&mut tx, alloc)
-}
-
-#[tactic(auto, using(brk_store_transactions::proofs::Ending::read_is_over))]
-fn read_all_trades<S: Alter>(
-    conn: &mut Connection<S>,
-    alloc: Global,
-) -> Result<Vec<TradeRow>, CallFault>
-    requires { conn.old.in_transaction ≡ false }
-    ensures mode { conn.new.in_transaction ≡ false }
-    ensures read { ReadPost S.Store conn.old conn.new result (λ all t. map abstract_trade_row all.items ≡ t.trades) }
-{
-    let mut tx = begin_transaction(conn);
-    brk_tables_trading::all_trades(&mut tx, alloc)
-}
-
-#[tactic(auto, using(brk_store_transactions::proofs::Ending::read_is_over))]
-fn read_all_accounts<S: Alter>(
-    conn: &mut Connection<S>,
-    alloc: Global,
-) -> Result<Vec<AccountRow>, CallFault>
-    requires { conn.old.in_transaction ≡ false }
-    ensures mode { conn.new.in_transaction ≡ false }
-    ensures read { ReadPost S.Store conn.old conn.new result (λ all t. map abstract_account_row all.items ≡ t.accounts) }
-{
-    let mut tx = begin_transaction(conn);
-    brk_tables_reference::all_accounts(&mut tx, alloc)
-}
-
-#[tactic(auto, using(brk_store_transactions::proofs::Ending::read_is_over))]
-fn read_all_lot_changes<S: Alter>(
-    conn: &mut Connection<S>,
-    alloc: Global,
-) -> Result<Vec<LotChange>, CallFault>
-    requires { conn.old.in_transaction ≡ false }
-    ensures mode { conn.new.in_transaction ≡ false }
-    ensures read { ReadPost S.Store conn.old conn.new result (λ all t. map abstract_lot_change_row all.items ≡ t.holding_history) }
-{
-    let mut tx = begin_transaction(conn);
-    brk_tables_views::all_lot_changes(&mut tx, alloc)
-}
-
-// Fails with `Memory` also if two rows of a table have one key.
-fn read_row_index<S: Alter>(conn: &mut Connection<S>, alloc: Global) -> Result<RowIndex, CallFault>
-    requires { conn.old.in_transaction ≡ false }
-    ensures mode { conn.new.in_transaction ≡ false }
-    ensures read { ReadPost S.Store conn.old conn.new result IsIndexOf }
-{
-    let lots = read_all_lots(conn, alloc)?;
-    let trades = read_all_trades(conn, alloc)?;
-    let accounts = read_all_accounts(conn, alloc)?;
-    let changes = read_all_lot_changes(conn, alloc)?;
-    match RowIndex::of_rows(alloc, &lots, &trades, &accounts, &changes) {
-        Ok(index) => Ok(index),
-        Err(_) => Err(CallFault::Memory),
     }
 }
 

@@ -15,7 +15,7 @@ use crate::index::StoreIndex;
 use brk_money::{CallFault, Id, Stamp, StoreFailed};
 use brk_ref::{Span, Symbol, TradeRow};
 use brk_store_index::Group;
-use brk_store_reads::by_age::read_row_if_any;
+use brk_store_reads::by_age::read_optional_row;
 use brk_store_reads::trades_by_age::{
     TradesOfAccount, TradesOfSymbol, first_age_since, read_twenty_between,
 };
@@ -75,7 +75,7 @@ impl<S: Alter> Store<S> {
     {
         if let StoreIndex::Made(index) = &self.index {
             let age = first_age_since(index.ages(&Group::TradesOfAccount(account)), first);
-            return read_row_if_any(&mut self.conn, &TradesOfAccount { account }, age);
+            return read_optional_row(&mut self.conn, &TradesOfAccount { account }, age);
         }
         let mut tx = begin_transaction(&mut self.conn);
         brk_tables_views::first_trade_of_account_since(&mut tx, account, first)

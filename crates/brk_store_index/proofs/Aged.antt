@@ -1,9 +1,8 @@
 -- Ages of rows that are not placed: of accounts and of changes of lots.
 use Rattle.std.proofs.Common.{◌≡◌, inl, inr, ◌∙◌, ◌+◌, ◌<◌, ℕ, Bool, true, false, cond, List, [], ◌∷◌, ◌++◌, map, filter, take, length, get_or, refl, sym, ap, subst}
-use Rattle.std.proofs.lemmas.List.{take_more, map-append}
 use Rattle.brk_store_index.specs.declared.age.RowAge.{RowAge}
 use Rattle.brk_store_index.specs.Ages.{AreAgesOf, Has, InsertsAgeIf}
-use Rattle.brk_store_index.proofs.Elements.{behind, front, has_filtered, has_kept, has_mapped, has_pushed, mapped_has, pushed_has}
+use Rattle.brk_store_index.proofs.Elements.{behind, front, has_filtered, has_kept, has_mapped, has_pushed, mapped_has, mapped_more, pushed_has}
 
 pub no_ages : (ages : List RowAge) → ages ≡ [] → AreAgesOf ages []
 no_ages ages none = subst (λ l. AreAgesOf l []) (sym none) (record { rising = tt; covers = λ a h. h; exact = λ a h. h })
@@ -65,6 +64,4 @@ pub row_added : {Typed Row : Type 0} (f : Typed → Row) (P : List Row → Type 
 row_added {Typed} {Row} f P same rows i row inside is more =
     let r = f row in
     let before = map f (take i rows) in
-    let e : map f (take (i + 1) rows) ≡ before ++ r ∷ [] =
-    ap (map f) (take_more rows i row inside ∙ ap (λ z. take i rows ++ z ∷ []) (sym is)) ∙ map-append f (take i rows) (row ∷ []) in
-    subst P (sym e) (same (r ∷ before) (before ++ r ∷ []) (λ y h. front r before y (has_pushed before r y h)) (λ x h. pushed_has before r x (behind r before x h)) more)
+    subst P (sym (mapped_more f rows i row inside is)) (same (r ∷ before) (before ++ r ∷ []) (λ y h. front r before y (has_pushed before r y h)) (λ x h. pushed_has before r x (behind r before x h)) more)

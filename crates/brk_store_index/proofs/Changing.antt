@@ -6,11 +6,11 @@ use Rattle.brk_money.specs.Kinds.{is_same_trade_status}
 use Rattle.brk_money.specs.Spelling.{Text}
 use Rattle.brk_money.specs.declared.status.Status.{Status}
 use Rattle.brk_money.specs.declared.status.Status.TheVariants.{Completed, Submitted}
-use Rattle.brk_model.specs.Keys.{KeyPart, is_row_key_less, account_key, holding_key, holding_history_key, trade_key}
+use Rattle.brk_model.specs.Keys.{KeyPart, is_row_key_less, account_key, holding_key, holding_history_key, last_trade_key, trade_key}
 use Rattle.brk_model.specs.Lists.{insert_by, update_where}
-use Rattle.brk_model.specs.Tables.{AccountRow, HoldingHistoryRow, HoldingRow, Tables, TradeRow}
+use Rattle.brk_model.specs.Tables.{AccountRow, HoldingHistoryRow, HoldingRow, LastTradeRow, Tables, TradeRow}
 use Rattle.brk_trade_rows.specs.Changes.{tables_after_change, tables_after_changes}
-use Rattle.brk_ref.specs.Records.{abstract_account}
+use Rattle.brk_ref.specs.Records.{abstract_account, abstract_last_trade_row}
 use Rattle.brk_ref.specs.Rows.{abstract_holding_row, abstract_lot_change_row, abstract_trade_row}
 use Rattle.brk_trade_rows.specs.declared.change.Change.{Change}
 use Rattle.brk_trade_rows.specs.declared.change.Change.TheVariants.{AddBroker, AddCustomer, AddAccount, AddPermission, AddSecurity, AddLastTrade}
@@ -21,21 +21,25 @@ use Rattle.brk_trade_rows.specs.declared.change.Change.TheVariants.{SetBalance, 
 use Rattle.brk_trade_rows.specs.declared.change.Change.TheVariants.{AddStoredReply, SetLastStamp}
 use Rattle.brk_ref.specs.declared.account.Account as typed_account
 use Rattle.brk_ref.specs.declared.holding_row.HoldingRow as typed_lot
+use Rattle.brk_ref.specs.declared.last_trade.LastTrade as typed_last
 use Rattle.brk_ref.specs.declared.lot_change.LotChange as typed_change
 use Rattle.brk_ref.specs.declared.trade_row.TradeRow as typed_trade
 use Rattle.brk_store_index.specs.declared.by_number.AgesByNumber.{AgesByNumber}
 use Rattle.brk_store_index.specs.declared.index.RowIndex.{RowIndex}
 use Rattle.brk_store_index.specs.declared.lots.LotGroups.{LotGroups}
 use Rattle.brk_store_index.specs.declared.lots.LotPlace.{LotPlace}
+use Rattle.brk_store_index.specs.declared.prices.LastPrices.{LastPrices}
 use Rattle.brk_store_index.specs.declared.trades.TradeGroups.{TradeGroups}
 use Rattle.brk_store_index.specs.declared.trades.TradePlace.{TradePlace}
 use Rattle.brk_store_index.specs.Ages.{AreAgesOf, Has, InsertsAgeIf}
 use Rattle.brk_store_index.specs.Groups.{ages_of_number, ages_of_position, is_same_position}
 use Rattle.brk_store_index.specs.Index.{Group, HasRowsOf, IsIndexOf, ages_at, members}
 use Rattle.brk_store_index.specs.Parts.{AreAccountsOf, AreLotChangesOf, IsIndexOfLots, IsIndexOfTrades, SetsStatus, age_of_id, lot_places, place_of_lot, place_of_trade, trade_places}
+use Rattle.brk_store_index.specs.Prices.{AddsPrice, AreLastPricesOf, SetsPrice}
 use Rattle.brk_store_index.proofs.Aged.{ages_mapped, ages_same, ages_with}
 use Rattle.brk_store_index.proofs.Elements.{behind, front, has_inserted, inserted_has}
 use Rattle.brk_store_index.proofs.Places.{ages_of_rows, follows_rows, places_mapped, places_same}
+use Rattle.brk_store_index.proofs.Pricing.{price_inserted, price_set}
 use Rattle.brk_store_index.proofs.Trading.{trades_same}
 
 -- ---- the parts of an index
@@ -46,9 +50,10 @@ pub record PartsOf (index : RowIndex) (t : Tables) : Type 0 where
   pub trades : IsIndexOfTrades index.trades t.trades
   pub accounts : AreAccountsOf index.accounts t.accounts
   pub changes : AreLotChangesOf index.changes t.holding_history
+  pub prices : AreLastPricesOf index.prices t.last_trades
 
 pub whole : (index : RowIndex) (t : Tables) → PartsOf index t → IsIndexOf index t
-whole index t parts = record { groups = groups; lot_places = parts.lots.places; trade_places = parts.trades.places }
+whole index t parts = record { groups = groups; lot_places = parts.lots.places; trade_places = parts.trades.places; last_prices = parts.prices }
   where
     groups : (g : Group) → AreAgesOf (ages_at index g) (members g t)
     groups (Group.Position account symbol) =
@@ -88,17 +93,19 @@ parts_of index t is = record {
   };
   accounts = λ customer. is.groups (Group.AccountsOfCustomer customer);
   changes = λ trade. is.groups (Group.LotChangesOfTrade trade);
+  prices = is.last_prices;
 }
 
-pub index_of_rows : (index : RowIndex) (lots : List HoldingRow) (trades : List TradeRow) (accounts : List AccountRow) (changes : List HoldingHistoryRow)
+pub index_of_rows : (index : RowIndex) (lots : List HoldingRow) (trades : List TradeRow) (accounts : List AccountRow) (changes : List HoldingHistoryRow) (last_trades : List LastTradeRow)
     → IsIndexOfLots index.lots lots → IsIndexOfTrades index.trades trades → AreAccountsOf index.accounts accounts → AreLotChangesOf index.changes changes
-    → (t : Tables) → HasRowsOf t lots trades accounts changes → IsIndexOf index t
-index_of_rows index lots trades accounts changes l r a c t has =
+    → AreLastPricesOf index.prices last_trades → (t : Tables) → HasRowsOf t lots trades accounts changes last_trades → IsIndexOf index t
+index_of_rows index lots trades accounts changes last_trades l r a c p t has =
     whole index t (record {
       lots = subst (IsIndexOfLots index.lots) (sym has.lot_rows) l;
       trades = subst (IsIndexOfTrades index.trades) (sym has.trade_rows) r;
       accounts = subst (AreAccountsOf index.accounts) (sym has.account_rows) a;
       changes = subst (AreLotChangesOf index.changes) (sym has.lot_changes) c;
+      prices = subst (AreLastPricesOf index.prices) (sym has.last_trade_rows) p;
     })
 
 -- ---- lists with the same elements
@@ -140,19 +147,23 @@ module _ (old : RowIndex) (t : Tables) (is : IsIndexOf old t) where
 
   with_lots : (lots : LotGroups) (rows : List HoldingRow) → IsIndexOfLots lots rows → IsIndexOf (record old { lots = lots }) (record t { holdings = rows })
   with_lots lots rows l =
-      whole (record old { lots = lots }) (record t { holdings = rows }) (record { lots = l; trades = parts.trades; accounts = parts.accounts; changes = parts.changes })
+      whole (record old { lots = lots }) (record t { holdings = rows }) (record { lots = l; trades = parts.trades; accounts = parts.accounts; changes = parts.changes; prices = parts.prices })
 
   with_trades : (trades : TradeGroups) (rows : List TradeRow) → IsIndexOfTrades trades rows → IsIndexOf (record old { trades = trades }) (record t { trades = rows })
   with_trades trades rows r =
-      whole (record old { trades = trades }) (record t { trades = rows }) (record { lots = parts.lots; trades = r; accounts = parts.accounts; changes = parts.changes })
+      whole (record old { trades = trades }) (record t { trades = rows }) (record { lots = parts.lots; trades = r; accounts = parts.accounts; changes = parts.changes; prices = parts.prices })
 
   with_accounts : (accounts : AgesByNumber) (rows : List AccountRow) → AreAccountsOf accounts rows → IsIndexOf (record old { accounts = accounts }) (record t { accounts = rows })
   with_accounts accounts rows a =
-      whole (record old { accounts = accounts }) (record t { accounts = rows }) (record { lots = parts.lots; trades = parts.trades; accounts = a; changes = parts.changes })
+      whole (record old { accounts = accounts }) (record t { accounts = rows }) (record { lots = parts.lots; trades = parts.trades; accounts = a; changes = parts.changes; prices = parts.prices })
 
   with_changes : (changes : AgesByNumber) (rows : List HoldingHistoryRow) → AreLotChangesOf changes rows → IsIndexOf (record old { changes = changes }) (record t { holding_history = rows })
   with_changes changes rows c =
-      whole (record old { changes = changes }) (record t { holding_history = rows }) (record { lots = parts.lots; trades = parts.trades; accounts = parts.accounts; changes = c })
+      whole (record old { changes = changes }) (record t { holding_history = rows }) (record { lots = parts.lots; trades = parts.trades; accounts = parts.accounts; changes = c; prices = parts.prices })
+
+  with_prices : (prices : LastPrices) (rows : List LastTradeRow) → AreLastPricesOf prices rows → IsIndexOf (record old { prices = prices }) (record t { last_trades = rows })
+  with_prices prices rows p =
+      whole (record old { prices = prices }) (record t { last_trades = rows }) (record { lots = parts.lots; trades = parts.trades; accounts = parts.accounts; changes = parts.changes; prices = p })
 
   pub lot_added : (lots : LotGroups) (row : typed_lot.HoldingRow) → ((rows : List HoldingRow) → IsIndexOfLots old.lots rows → IsIndexOfLots lots (abstract_holding_row row ∷ rows))
       → IsIndexOf (record old { lots = lots }) (tables_after_change (AddLot row) t)
@@ -203,6 +214,18 @@ module _ (old : RowIndex) (t : Tables) (is : IsIndexOf old t) where
       let r = abstract_lot_change_row c in
       with_changes changes (insert_by (is_row_key_less holding_history_key) r t.holding_history)
       (in_table holding_history_key (AreLotChangesOf changes) (lot_changes_same changes) r t.holding_history (lot_changes_with old.changes changes r t.holding_history inserts parts.changes))
+
+  pub last_trade_added : (prices : LastPrices) (l : typed_last.LastTrade) → AddsPrice old.prices l.symbol l.price prices
+      → IsIndexOf (record old { prices = prices }) (tables_after_change (AddLastTrade l) t)
+  last_trade_added prices l adds =
+      let r = abstract_last_trade_row l in
+      with_prices prices (insert_by (is_row_key_less last_trade_key) r t.last_trades) (price_inserted (is_row_key_less last_trade_key) old.prices prices r t.last_trades adds parts.prices)
+
+  pub last_trade_set : (prices : LastPrices) (l : typed_last.LastTrade) → SetsPrice old.prices l.symbol l.price prices
+      → IsIndexOf (record old { prices = prices }) (tables_after_change (SetLastTrade l) t)
+  last_trade_set prices l sets =
+      with_prices prices (update_where (λ r. bytes_eq r.symbol l.symbol) (λ r. record r { stamp = l.stamp; price = l.price; volume = l.volume }) t.last_trades)
+      (price_set old.prices prices (abstract_last_trade_row l) t.last_trades sets parts.prices)
 
   -- changes of columns that the index does not read
   abbrev with_quantity : ℕ → ℤ → HoldingRow → HoldingRow
@@ -298,6 +321,12 @@ pub lot_change_added_if : {E : Type 0} (old : RowIndex) (changes : AgesByNumber)
 lot_change_added_if old changes c (Ok v) h = λ t is. lot_change_added old t is changes c h
 lot_change_added_if old changes c (Err e) h = tt
 
+pub last_trade_added_if : {E : Type 0} (old : RowIndex) (prices : LastPrices) (l : typed_last.LastTrade) (r : Result (Unit {0}) E)
+    → OnOk r (AddsPrice old.prices l.symbol l.price prices)
+    → OnOk r ((t : Tables) → IsIndexOf old t → IsIndexOf (record old { prices = prices }) (tables_after_change (AddLastTrade l) t))
+last_trade_added_if old prices l (Ok v) h = λ t is. last_trade_added old t is prices l h
+last_trade_added_if old prices l (Err e) h = tt
+
 pub of_change : {E : Type 0} (r : Result (Unit {0}) E) (old new : RowIndex) (change k : Change) → change ≡ k → OnOk r ((t : Tables) → IsIndexOf old t → IsIndexOf new (tables_after_change k t))
     → OnOk r ((t : Tables) → IsIndexOf old t → IsIndexOf new (tables_after_change change t))
 of_change r old new change k e h = subst (λ (c : Change). OnOk r ((t : Tables) → IsIndexOf old t → IsIndexOf new (tables_after_change c t))) (sym e) h
@@ -313,12 +342,16 @@ pub record IsOther (change : Change) : Type 0 where
   pub completed : (id stamp price commission tax : ℕ) → change ≡ CompleteTrade id stamp price commission tax → ⊥
   pub account_added : (a : typed_account.Account) → change ≡ AddAccount a → ⊥
   pub lot_change_added : (c : typed_change.LotChange) → change ≡ AddLotChange c → ⊥
+  pub last_trade_added : (l : typed_last.LastTrade) → change ≡ AddLastTrade l → ⊥
+  pub last_trade_set : (l : typed_last.LastTrade) → change ≡ SetLastTrade l → ⊥
 
--- tables of which the four tables of the index are equal
-unread : (index : RowIndex) (t u : Tables) → u.holdings ≡ t.holdings → u.trades ≡ t.trades → u.accounts ≡ t.accounts → u.holding_history ≡ t.holding_history → IsIndexOf index t → IsIndexOf index u
-unread index t u h r a c is =
+-- tables of which the five tables of the index are equal
+unread : (index : RowIndex) (t u : Tables) → u.holdings ≡ t.holdings → u.trades ≡ t.trades → u.accounts ≡ t.accounts → u.holding_history ≡ t.holding_history
+    → u.last_trades ≡ t.last_trades → IsIndexOf index t → IsIndexOf index u
+unread index t u h r a c l is =
     let p = parts_of index t is in
-    index_of_rows index t.holdings t.trades t.accounts t.holding_history p.lots p.trades p.accounts p.changes u (record { lot_rows = h; trade_rows = r; account_rows = a; lot_changes = c })
+    index_of_rows index t.holdings t.trades t.accounts t.holding_history t.last_trades p.lots p.trades p.accounts p.changes p.prices u
+    (record { lot_rows = h; trade_rows = r; account_rows = a; lot_changes = c; last_trade_rows = l })
 
 pub kept : (index : RowIndex) (change : Change) (t : Tables) → IsOther change → IsIndexOf index t → IsIndexOf index (tables_after_change change t)
 kept index (AddLot row) t other is = absurd (other.lot_added row refl)
@@ -328,33 +361,33 @@ kept index (SetStatus id status stamp) t other is = absurd (other.status_set id 
 kept index (CompleteTrade id stamp price commission tax) t other is = absurd (other.completed id stamp price commission tax refl)
 kept index (AddAccount a) t other is = absurd (other.account_added a refl)
 kept index (AddLotChange c) t other is = absurd (other.lot_change_added c refl)
+kept index (AddLastTrade l) t other is = absurd (other.last_trade_added l refl)
+kept index (SetLastTrade l) t other is = absurd (other.last_trade_set l refl)
 kept index (SetLot trade qty) t other is = quantity_set index t is trade qty
 kept index (SetExecutor trade name) t other is = executor_set index t is trade (string_bytes name)
 kept index (SetBalance account balance) t other is = balance_set index t is account balance
-kept index (AddBroker x) t other is = unread index t (tables_after_change (AddBroker x) t) refl refl refl refl is
-kept index (AddCustomer x) t other is = unread index t (tables_after_change (AddCustomer x) t) refl refl refl refl is
-kept index (AddPermission x) t other is = unread index t (tables_after_change (AddPermission x) t) refl refl refl refl is
-kept index (AddSecurity x) t other is = unread index t (tables_after_change (AddSecurity x) t) refl refl refl refl is
-kept index (AddLastTrade x) t other is = unread index t (tables_after_change (AddLastTrade x) t) refl refl refl refl is
-kept index (AddCharge x) t other is = unread index t (tables_after_change (AddCharge x) t) refl refl refl refl is
-kept index (AddBand x) t other is = unread index t (tables_after_change (AddBand x) t) refl refl refl refl is
-kept index (AddTaxRate x) t other is = unread index t (tables_after_change (AddTaxRate x) t) refl refl refl refl is
-kept index (AddCustomerTax x) t other is = unread index t (tables_after_change (AddCustomerTax x) t) refl refl refl refl is
-kept index (AddHistory x) t other is = unread index t (tables_after_change (AddHistory x) t) refl refl refl refl is
-kept index (AddRequest x) t other is = unread index t (tables_after_change (AddRequest x) t) refl refl refl refl is
-kept index (RemoveRequest x) t other is = unread index t (tables_after_change (RemoveRequest x) t) refl refl refl refl is
-kept index (SetLastTrade x) t other is = unread index t (tables_after_change (SetLastTrade x) t) refl refl refl refl is
-kept index (AddSummary x) t other is = unread index t (tables_after_change (AddSummary x) t) refl refl refl refl is
-kept index (SetSummary x) t other is = unread index t (tables_after_change (SetSummary x) t) refl refl refl refl is
-kept index (RemoveSummary x y) t other is = unread index t (tables_after_change (RemoveSummary x y) t) refl refl refl refl is
-kept index (AddSettlement x) t other is = unread index t (tables_after_change (AddSettlement x) t) refl refl refl refl is
-kept index (AddMove x) t other is = unread index t (tables_after_change (AddMove x) t) refl refl refl refl is
-kept index (SetBrokerTotals x y z) t other is = unread index t (tables_after_change (SetBrokerTotals x y z) t) refl refl refl refl is
-kept index (SetCashType x y) t other is = unread index t (tables_after_change (SetCashType x y) t) refl refl refl refl is
-kept index (SetCashName x y) t other is = unread index t (tables_after_change (SetCashName x y) t) refl refl refl refl is
-kept index (SetOneDaySettlementStart x) t other is = unread index t (tables_after_change (SetOneDaySettlementStart x) t) refl refl refl refl is
-kept index (AddStoredReply x) t other is = unread index t (tables_after_change (AddStoredReply x) t) refl refl refl refl is
-kept index (SetLastStamp x) t other is = unread index t (tables_after_change (SetLastStamp x) t) refl refl refl refl is
+kept index (AddBroker x) t other is = unread index t (tables_after_change (AddBroker x) t) refl refl refl refl refl is
+kept index (AddCustomer x) t other is = unread index t (tables_after_change (AddCustomer x) t) refl refl refl refl refl is
+kept index (AddPermission x) t other is = unread index t (tables_after_change (AddPermission x) t) refl refl refl refl refl is
+kept index (AddSecurity x) t other is = unread index t (tables_after_change (AddSecurity x) t) refl refl refl refl refl is
+kept index (AddCharge x) t other is = unread index t (tables_after_change (AddCharge x) t) refl refl refl refl refl is
+kept index (AddBand x) t other is = unread index t (tables_after_change (AddBand x) t) refl refl refl refl refl is
+kept index (AddTaxRate x) t other is = unread index t (tables_after_change (AddTaxRate x) t) refl refl refl refl refl is
+kept index (AddCustomerTax x) t other is = unread index t (tables_after_change (AddCustomerTax x) t) refl refl refl refl refl is
+kept index (AddHistory x) t other is = unread index t (tables_after_change (AddHistory x) t) refl refl refl refl refl is
+kept index (AddRequest x) t other is = unread index t (tables_after_change (AddRequest x) t) refl refl refl refl refl is
+kept index (RemoveRequest x) t other is = unread index t (tables_after_change (RemoveRequest x) t) refl refl refl refl refl is
+kept index (AddSummary x) t other is = unread index t (tables_after_change (AddSummary x) t) refl refl refl refl refl is
+kept index (SetSummary x) t other is = unread index t (tables_after_change (SetSummary x) t) refl refl refl refl refl is
+kept index (RemoveSummary x y) t other is = unread index t (tables_after_change (RemoveSummary x y) t) refl refl refl refl refl is
+kept index (AddSettlement x) t other is = unread index t (tables_after_change (AddSettlement x) t) refl refl refl refl refl is
+kept index (AddMove x) t other is = unread index t (tables_after_change (AddMove x) t) refl refl refl refl refl is
+kept index (SetBrokerTotals x y z) t other is = unread index t (tables_after_change (SetBrokerTotals x y z) t) refl refl refl refl refl is
+kept index (SetCashType x y) t other is = unread index t (tables_after_change (SetCashType x y) t) refl refl refl refl refl is
+kept index (SetCashName x y) t other is = unread index t (tables_after_change (SetCashName x y) t) refl refl refl refl refl is
+kept index (SetOneDaySettlementStart x) t other is = unread index t (tables_after_change (SetOneDaySettlementStart x) t) refl refl refl refl refl is
+kept index (AddStoredReply x) t other is = unread index t (tables_after_change (AddStoredReply x) t) refl refl refl refl refl is
+kept index (SetLastStamp x) t other is = unread index t (tables_after_change (SetLastStamp x) t) refl refl refl refl refl is
 
 -- ---- one change after another
 

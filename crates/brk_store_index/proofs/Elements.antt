@@ -1,5 +1,6 @@
 -- The elements of lists.
-use Rattle.std.proofs.Common.{◌≡◌, ◌⊎◌, inl, inr, ◌∙◌, Bool, true, false, cond, List, [], ◌∷◌, ◌++◌, map, filter, length, refl, ap}
+use Rattle.std.proofs.Common.{◌≡◌, ◌⊎◌, inl, inr, ◌∙◌, ◌+◌, ◌<◌, ℕ, Bool, true, false, cond, List, [], ◌∷◌, ◌++◌, map, filter, get_or, length, take, refl, sym, ap}
+use Rattle.std.proofs.lemmas.List.{map-append, take_more}
 use Rattle.brk_model.specs.Lists.{insert_by}
 use Rattle.brk_store_index.specs.Ages.{Has}
 
@@ -82,3 +83,7 @@ front r rows x (inl h) = inr h
 pub behind : {X : Type 0} (r : X) (rows : List X) (x : X) → Has (r ∷ rows) x → Has rows x ⊎ (x ≡ r)
 behind r rows x (inl e) = inr e
 behind r rows x (inr h) = inl h
+
+-- one row more of the first rows
+pub mapped_more : {X Y : Type 0} (f : X → Y) (xs : List X) (i : ℕ) (x : X) → i < length xs → x ≡ get_or xs i x → map f (take (i + 1) xs) ≡ map f (take i xs) ++ f x ∷ []
+mapped_more f xs i x inside is = ap (map f) (take_more xs i x inside ∙ ap (λ z. take i xs ++ z ∷ []) (sym is)) ∙ map-append f (take i xs) (x ∷ [])

@@ -3,6 +3,7 @@ pub mod Rising
 pub mod Placing
 pub mod Places
 pub mod Trading
+pub mod Pricing
 pub mod Aged
 pub mod Changing
 pub mod Ordered

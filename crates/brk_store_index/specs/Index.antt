@@ -4,10 +4,11 @@ use Rattle.std.specs.HashMap.{hash_map_len}
 use Rattle.brk_money.specs.Kinds.{is_same_trade_status}
 use Rattle.brk_money.specs.Spelling.{Text}
 use Rattle.brk_money.specs.declared.status.Status.TheVariants.{Submitted}
-use Rattle.brk_model.specs.Tables.{AccountRow, HoldingHistoryRow, HoldingRow, Tables, TradeRow}
+use Rattle.brk_model.specs.Tables.{AccountRow, HoldingHistoryRow, HoldingRow, LastTradeRow, Tables, TradeRow}
 use Rattle.brk_store_index.specs.Ages.{AreAgesOf}
 use Rattle.brk_store_index.specs.Groups.{ages_of_number, ages_of_position}
 use Rattle.brk_store_index.specs.Parts.{ArePlacesOfLots, ArePlacesOfTrades, age_of_id, age_of_lot, age_of_trade}
+use Rattle.brk_store_index.specs.Prices.{AreLastPricesOf}
 use Rattle.brk_store_index.specs.declared.age.RowAge.{RowAge}
 use Rattle.brk_store_index.specs.declared.group.Group as typed
 use Rattle.brk_store_index.specs.declared.group.Group.TheVariants as variant
@@ -51,19 +52,21 @@ ages_at index SubmittedTrades = index.trades.submitted.items
 ages_at index (AccountsOfCustomer customer) = ages_of_number index.accounts customer
 ages_at index (LotChangesOfTrade trade) = ages_of_number index.changes trade
 
--- The index of the rows of the tables `t`: it has of each group exactly the ages of its rows, and it
--- has the place of each lot and each trade.
+-- The index of the rows of the tables `t`: it has of each group exactly the ages of its rows, the
+-- place of each lot and each trade, and the last price of each security.
 pub record IsIndexOf (index : RowIndex) (t : Tables) : Type 0 where
   pub groups : (g : Group) → AreAgesOf (ages_at index g) (members g t)
   pub lot_places : ArePlacesOfLots index.lots t.holdings
   pub trade_places : ArePlacesOfTrades index.trades t.trades
+  pub last_prices : AreLastPricesOf index.prices t.last_trades
 
--- The four tables that the index is made of have these rows.
-pub record HasRowsOf (t : Tables) (holdings : List HoldingRow) (trades : List TradeRow) (accounts : List AccountRow) (changes : List HoldingHistoryRow) : Type 0 where
+-- The five tables that the index is made of have these rows.
+pub record HasRowsOf (t : Tables) (holdings : List HoldingRow) (trades : List TradeRow) (accounts : List AccountRow) (changes : List HoldingHistoryRow) (last_trades : List LastTradeRow) : Type 0 where
   pub lot_rows : t.holdings ≡ holdings
   pub trade_rows : t.trades ≡ trades
   pub account_rows : t.accounts ≡ accounts
   pub lot_changes : t.holding_history ≡ changes
+  pub last_trade_rows : t.last_trades ≡ last_trades
 
 -- The number of lots that the index has.
 abbrev pub number_of_lots : RowIndex → ℕ

@@ -2,3 +2,4 @@ pub mod Ages
 pub mod Groups
 pub mod Index
 pub mod Parts
+pub mod Prices

@@ -1,36 +1,41 @@
 //! The index: made of rows, updated by row changes, and read by group.
 
-ghost use Rattle.std.specs.Prelude.{◌≡◌, ℕ, IfOk, List, OnOk, [], map};
+ghost use Rattle.std.specs.Prelude.{◌≡◌, ℕ, IfOk, IfSome, List, OnOk, [], map};
 ghost use Rattle.std.specs.Option.{option_copied};
 ghost use Rattle.brk_money.specs.Kinds.{is_same_trade_status};
 ghost use Rattle.brk_money.specs.declared.status.Status.TheVariants.{Submitted};
 ghost use Rattle.brk_trade_rows.specs.Changes.{tables_after_change, tables_after_changes};
-ghost use Rattle.brk_ref.specs.Records.{abstract_account_row};
-ghost use Rattle.brk_ref.specs.Rows.{abstract_holding_row, abstract_lot_change_row, abstract_trade_row};
+ghost use Rattle.brk_ref.specs.Records.{abstract_account_row, abstract_last_trade_row};
+ghost use Rattle.brk_ref.specs.Rows.{abstract_holding_row, abstract_lot_change_row, abstract_summary_row, abstract_trade_row};
+ghost use Rattle.brk_model.specs.Lists.{total_by};
 ghost use Rattle.brk_model.specs.Tables.{Tables};
 ghost use Rattle.brk_store_index.specs.Ages.{ages_in};
 ghost use Rattle.brk_store_index.specs.Index.{HasRowsOf, IsIndexOf, abstract_group, ages_at, number_of_lots};
 ghost use Rattle.brk_store_index.specs.Parts.{AreAccountsOf, AreLotChangesOf};
+ghost use Rattle.brk_store_index.specs.Prices.{market_value_of_summary};
 
 use crate::age::RowAge;
 use crate::by_number::AgesByNumber;
 use crate::group::Group;
 use crate::lost::IndexLost;
 use crate::lots::LotGroups;
+use crate::prices::LastPrices;
 use crate::trades::TradeGroups;
-use brk_money::Status;
-use brk_ref::{AccountRow, HoldingRow, LotChange, TradeRow};
+use brk_money::{Status, Wide};
+use brk_ref::{AccountRow, HoldingRow, LastTrade, LotChange, SummaryRow, TradeRow};
 use brk_trade_rows::Change;
 use std::alloc::Global;
 use std::collections::VecDeque;
 
-/// The ages of the rows of each group (`Group`), the oldest first.
+/// The ages of the rows of each group (`Group`), the oldest first, and the last price of each
+/// security.
 #[derive(Drop)]
 pub struct RowIndex {
     lots: LotGroups,
     trades: TradeGroups,
     accounts: AgesByNumber,
     changes: AgesByNumber,
+    prices: LastPrices,
 }
 
 fn is_submitted(status: Status) -> bool
@@ -63,27 +68,30 @@ fn changes_of_rows(alloc: Global, rows: &[LotChange]) -> Result<AgesByNumber, In
 
 impl RowIndex {
     pub fn new(alloc: Global) -> RowIndex
-        ensures { (t : Tables) → HasRowsOf t [] [] [] [] → IsIndexOf result t }
+        ensures { (t : Tables) → HasRowsOf t [] [] [] [] [] → IsIndexOf result t }
     {
         RowIndex {
             lots: LotGroups::new(alloc),
             trades: TradeGroups::new(alloc),
             accounts: AgesByNumber::new(alloc),
             changes: AgesByNumber::new(alloc),
+            prices: LastPrices::new(alloc),
         }
     }
 
-    /// Creates the index of all rows of HOLDING, TRADE, CUSTOMER_ACCOUNT and HOLDING_HISTORY. Fails
-    /// also if two rows of a table have one key.
+    /// Creates the index of all rows of HOLDING, TRADE, CUSTOMER_ACCOUNT, HOLDING_HISTORY and
+    /// LAST_TRADE. Fails also if two rows of a table have one key.
     pub fn of_rows(
         alloc: Global,
         lots: &[HoldingRow],
         trades: &[TradeRow],
         accounts: &[AccountRow],
         changes: &[LotChange],
+        last_trades: &[LastTrade],
     ) -> Result<RowIndex, IndexLost>
         ensures { IfOk result (λ index. (t : Tables)
             → HasRowsOf t (map abstract_holding_row lots.now) (map abstract_trade_row trades.now) (map abstract_account_row accounts.now) (map abstract_lot_change_row changes.now)
+            (map abstract_last_trade_row last_trades.now)
             → IsIndexOf index t) }
     {
         Ok(RowIndex {
@@ -91,6 +99,7 @@ impl RowIndex {
             trades: TradeGroups::of_rows(alloc, trades)?,
             accounts: accounts_of_rows(alloc, accounts)?,
             changes: changes_of_rows(alloc, changes)?,
+            prices: LastPrices::of_rows(alloc, last_trades)?,
         })
     }
 
@@ -117,6 +126,11 @@ impl RowIndex {
             Change::AddLotChange(change) => self
                 .changes
                 .insert(change.trade.get(), RowAge::of_id(change.lot)),
+            Change::AddLastTrade(last) => self.prices.add(last),
+            Change::SetLastTrade(last) => {
+                self.prices.set(last);
+                Ok(())
+            }
             _ => Ok(()),
         }
     }
@@ -135,6 +149,15 @@ impl RowIndex {
         ensures { result ≡ number_of_lots self.now }
     {
         self.lots.len()
+    }
+
+    /// Returns the market value of holdings at last prices, in cents; shares that were sold short
+    /// count below 0. Returns `None` if a security has no last price, or if the value overflows.
+    pub fn market_value(&self, rows: &[SummaryRow]) -> Option<Wide>
+        ensures { (t : Tables) → IsIndexOf self.now t
+            → IfSome result (λ value. value ≡ total_by (market_value_of_summary t) (map abstract_summary_row rows.now)) }
+    {
+        self.prices.market_value(rows)
     }
 
     /// Returns the ages of the rows of a group, the oldest first.

@@ -1,5 +1,6 @@
 //! An index of rows in memory: for each group of rows that is read, such as the trades of an account,
-//! the ages of its rows, the oldest first. An age is a stamp with an id.
+//! the ages of its rows, the oldest first. An age is a stamp with an id. It also has the last price of
+//! each security.
 #![tactic(auto)]
 
 pub mod age;
@@ -10,9 +11,11 @@ pub mod group;
 pub mod index;
 pub mod lost;
 mod lots;
+mod prices;
 mod trades;
 
 pub use age::RowAge;
 pub use group::Group;
 pub use index::RowIndex;
 pub use lost::IndexLost;
+pub use prices::add_market_value;

@@ -114,7 +114,7 @@ pub fn read_all_rows<S: Alter, R: Drop, K: RowsByAge<S, R>>(
 }
 
 /// Returns the row of the age, if there is one.
-pub fn read_row_if_any<S: Alter, R: Drop, K: RowsByAge<S, R>>(
+pub fn read_optional_row<S: Alter, R: Drop, K: RowsByAge<S, R>>(
     conn: &mut Connection<S>,
     kind: &K,
     age: Option<RowAge>,

@@ -1,8 +1,9 @@
 //! Reads of a database on a connection: sequences of reads, and rows that an index in memory finds,
-//! each read by its key.
+//! each read by its key; and the reads of all rows of which the index is made.
 #![tactic(auto)]
 
 pub mod accounts_by_age;
 pub mod by_age;
 mod chosen_ages;
+pub mod row_index;
 pub mod trades_by_age;

@@ -1,14 +1,10 @@
 -- The market value of an account's holdings at last prices.
-use Rattle.std.specs.Prelude.{◌≡◌, ℕ, ◌==◌, ◌*ℤ◌, ℤ, pos, filter, map}
-use Rattle.brk_model.specs.Joins.{last_price_in_tables}
+use Rattle.std.specs.Prelude.{◌≡◌, ℕ, ◌==◌, ℤ, filter, map}
 use Rattle.brk_model.specs.Lists.{total_by}
-use Rattle.brk_model.specs.Tables.{SummaryRow, Tables}
+use Rattle.brk_model.specs.Tables.{Tables}
 use Rattle.brk_ref.specs.Rows.{abstract_summary_row}
+use Rattle.brk_store_index.specs.Prices.{market_value_of_summary}
 use Rattle.brk_store_required.specs.declared.valuation.ValuedSummaries.{ValuedSummaries}
-
--- A summary's market value in cents: its shares, below 0 if sold short, times the last price or 0.
-abbrev pub market_value_of_summary : Tables → SummaryRow → ℤ
-market_value_of_summary t row = row.qty *ℤ pos (last_price_in_tables t row.symbol)
 
 -- The market value of the account's holding summaries, at last prices, in cents; below 0 if short.
 abbrev pub market_value_of_account : Tables → ℕ → ℤ

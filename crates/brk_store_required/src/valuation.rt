@@ -3,15 +3,17 @@
 //! if a held symbol has no last price or the value overflows. A crash after a read exposes only
 //! states that a crash before it could expose.
 
-ghost use Rattle.std.specs.Prelude.{◌≡◌, ◌+ℤ◌, ◌*ℤ◌, IfSome, pos};
+ghost use Rattle.std.specs.Prelude.{◌≡◌, ◌+ℤ◌};
 ghost use Rattle.brk_ref.specs.Rows.{abstract_summary_row};
 ghost use Rattle.brk_model.specs.Joins.{last_price_in_tables};
 ghost use Rattle.brk_store_transactions.specs.Holds.{ReadPost};
-ghost use Rattle.brk_store_required.specs.Valuation.{AreValuedSummariesOfAccount, market_value_of_summary, market_value_of_account};
+ghost use Rattle.brk_store_index.specs.Prices.{market_value_of_summary};
+ghost use Rattle.brk_store_required.specs.Valuation.{AreValuedSummariesOfAccount, market_value_of_account};
 
 use brk_money::{CallFault, Id, Price, Wide};
 use brk_ref::{SummaryRow, Symbol};
 use brk_store::Store;
+use brk_store_index::add_market_value;
 use sqlite::Alter;
 use std::alloc::Global;
 
@@ -38,19 +40,6 @@ pub fn require_last_price<S: Alter>(
     }
 }
 
-// Returns `None` if the market value or the sum overflows.
-fn add_market_value(amount: Wide, row: &SummaryRow, price: Price) -> Option<Wide>
-    ensures { IfSome result (λ sum. sum ≡ amount +ℤ row.now.qty *ℤ pos price) }
-{
-    let Some(worth) = i128::from(row.qty).checked_mul(i128::from(price.get())) else {
-        return None;
-    };
-    match amount.get().checked_add(worth) {
-        Some(sum) => Some(Wide::new(sum)),
-        None => None,
-    }
-}
-
 fn add_value_at_last_price<S: Alter>(
     store: &mut Store<S>,
     amount: Wide,
@@ -74,8 +63,11 @@ pub fn read_valued_summaries<S: Alter>(
 ) -> Result<ValuedSummaries, CallFault>
     ensures read { ReadPost S.Store store.old store.new result (λ held t. AreValuedSummariesOfAccount t account held) }
 {
+    let (rows, value) = store.summaries_with_value(alloc, account)?;
+    if let Some(value) = value {
+        return Ok(ValuedSummaries { rows, value });
+    }
     let mut total = Wide::new(0);
-    let rows = store.read_summaries(alloc, account)?;
     for row in &rows {
         let sum = add_value_at_last_price(store, total, row)?;
         total = sum;

@@ -31,12 +31,13 @@ pub use brk_tables_scan::{database_has_schema, has_some_desk_table, read_sheets,
 pub use brk_tables_schema::{add_kept_row, kept_row_by_key, last_stamp, set_last_stamp};
 pub use brk_tables_trading::{
     account_summaries, add_holding_summary, add_lot, add_lot_change, add_request, add_settlement,
-    add_trade, add_trade_history_row, all_lots, all_trades, complete_trade, greatest_trade_id,
-    history_of_trade, last_fifty_trades, last_ten_trades, last_trade_by_symbol, lot_by_trade,
-    newest_lots, oldest_lots, position_summary, remove_holding_summary, remove_lot, remove_request,
-    requests_of_symbol, set_account_balance, set_broker_totals, set_cash_type, set_executor,
-    set_last_trade, set_lot_quantity, set_summary_quantity, set_trade_status, settlement_by_trade,
-    submitted_trades, trade_by_id, twenty_completed_cash_trades, twenty_completed_trades,
+    add_trade, add_trade_history_row, all_last_trades, all_lots, all_trades, complete_trade,
+    greatest_trade_id, history_of_trade, last_fifty_trades, last_ten_trades, last_trade_by_symbol,
+    lot_by_trade, newest_lots, oldest_lots, position_summary, remove_holding_summary, remove_lot,
+    remove_request, requests_of_symbol, set_account_balance, set_broker_totals, set_cash_type,
+    set_executor, set_last_trade, set_lot_quantity, set_summary_quantity, set_trade_status,
+    settlement_by_trade, submitted_trades, trade_by_id, twenty_completed_cash_trades,
+    twenty_completed_trades,
 };
 pub use brk_tables_views::{
     Visitor, WalkError, account_ids_of_broker, all_account_ids, all_lot_changes, all_requests,

@@ -9,6 +9,7 @@ pub mod LastTradeId
 pub mod SubmittedTrades
 pub mod RequestsOfSymbol
 pub mod LastTradeBySymbol
+pub mod LastTradesBySymbol
 pub mod OldestLots
 pub mod NewestLots
 pub mod LotByTrade

@@ -24,6 +24,7 @@ use Rattle.brk_tables_trading.proofs.LastTradeId
 use Rattle.brk_tables_trading.proofs.SubmittedTrades
 use Rattle.brk_tables_trading.proofs.RequestsOfSymbol
 use Rattle.brk_tables_trading.proofs.LastTradeBySymbol
+use Rattle.brk_tables_trading.proofs.LastTradesBySymbol
 
 pub tells_trade : (old new : State) (id : ℕ) (rows : List Row) → Shown TradeById.statement (natural_as_value id ∷ []) old new rows
     → TablesSatisfy desk_tables (λ t. rows ≡ map trade_cells (filter (λ r. r.id == id) t.trades)) old.now
@@ -83,3 +84,10 @@ tells_last_trade old new symbol rows shown =
     told_rising desk_tables LastTrades LastTradeBySymbol.statement LastTradeBySymbol.ask LastTradeBySymbol.paging LastTradeBySymbol.is_asked (Words symbol ∷ [])
     (λ (r : LastTradeRow). bytes_eq r.symbol symbol) (λ tree x. same_text x.symbol symbol)
     last_trade_cells (λ x. refl) (ordering_by_primary_key LastTrades) (key_total last_trade_key) (λ tree x y. refl) old new rows shown (λ x y. refl)
+
+pub tells_last_trades : (old new : State) (rows : List Row) → Shown LastTradesBySymbol.statement [] old new rows → TablesSatisfy desk_tables (λ t. rows ≡ map last_trade_cells t.last_trades) old.now
+tells_last_trades old new rows shown = λ t tree h.
+    told_rising desk_tables LastTrades LastTradesBySymbol.statement LastTradesBySymbol.ask LastTradesBySymbol.paging LastTradesBySymbol.is_asked []
+    (λ _. true) (λ tree x. refl)
+    last_trade_cells (λ x. refl) (ordering_by_primary_key LastTrades) (key_total last_trade_key) (λ tree x y. refl) old new rows shown (λ x y. refl) t tree h
+    ∙ ap (map last_trade_cells) (filter_true t.last_trades)

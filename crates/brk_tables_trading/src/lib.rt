@@ -29,7 +29,7 @@ pub use history::add_trade_history_row;
 pub use holdings::{
     account_summaries, all_lots, lot_by_trade, newest_lots, oldest_lots, position_summary,
 };
-pub use last_trades::{last_trade_by_symbol, set_last_trade};
+pub use last_trades::{all_last_trades, last_trade_by_symbol, set_last_trade};
 pub use lots::{add_lot, add_lot_change, remove_lot, set_lot_quantity};
 pub use requests::{add_request, remove_request, requests_of_symbol};
 pub use settlements::add_settlement;

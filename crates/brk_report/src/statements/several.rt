@@ -12,7 +12,7 @@ use std::alloc::Global;
 use std::io::Write;
 
 // An account that was read is never refused: the store would not hold its row any more.
-fn store_fault_if_refused(ended: Result<(), StatementFault>) -> Result<(), StatementFault>
+fn refusal_as_store_fault(ended: Result<(), StatementFault>) -> Result<(), StatementFault>
     ensures { result ≡ without_refusal ended }
 {
     match ended {
@@ -35,7 +35,7 @@ fn write_account<W: Write, S: Alter>(
     ensures { ReportLinesPost S.Store desk.old desk.new (λ t. HasAccount t account) (λ t. lines_of_account t from to account)
         (W.contents writer.old) (W.contents writer.new) result }
 {
-    store_fault_if_refused(statement(alloc, desk, account, from, to, writer))
+    refusal_as_store_fault(statement(alloc, desk, account, from, to, writer))
 }
 
 fn write_accounts<W: Write, S: Alter>(

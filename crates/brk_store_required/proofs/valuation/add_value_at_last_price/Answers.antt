@@ -2,7 +2,7 @@ use Rattle.std.proofs.Common.{◌≡◌, ◌∙◌, ◌+ℤ◌, ◌*ℤ◌, ap, 
 use Rattle.brk_model.specs.Joins.{last_price_in_tables}
 use Rattle.brk_model.specs.Tables.{Tables}
 use Rattle.brk_ref.specs.Rows.{abstract_summary_row}
-use Rattle.brk_store_required.specs.Valuation.{market_value_of_summary}
+use Rattle.brk_store_index.specs.Prices.{market_value_of_summary}
 use Rattle.brk_store_reads.proofs.Retelling.{retold}
 use Rattle.brk_store_required.proofs.valuation.add_value_at_last_price.Goals as goal
 

@@ -1,16 +1,18 @@
-use Rattle.std.proofs.Common.{◌≡◌, ◌==◌, ◌∙◌, ◌+◌, ◌+ℤ◌, ℤ, ℕ, List, ap, filter, map, sym, take}
+use Rattle.std.proofs.Common.{◌≡◌, ◌==◌, ◌∙◌, ◌+◌, ◌+ℤ◌, ℤ, ℕ, IfSome, List, Option, Some, ap, filter, map, sym, take}
 use Rattle.std.proofs.lemmas.List.{take_all}
+use Rattle.std.specs.Global.{Vec}
 use Rattle.brk_money.specs.declared.fault.CallFault.{CallFault}
 use Rattle.brk_model.specs.Lists.{total_by}
 use Rattle.brk_model.specs.Tables as tables
 use Rattle.brk_model.specs.Tables.{Tables}
 use Rattle.brk_ref.specs.Rows.{abstract_summary_row}
 use Rattle.brk_ref.specs.declared.summary_row.SummaryRow.{SummaryRow}
-use Rattle.brk_store_required.specs.Valuation.{AreValuedSummariesOfAccount, market_value_of_summary}
+use Rattle.brk_store_index.specs.Prices.{market_value_of_summary}
+use Rattle.brk_store_index.proofs.Pricing.{total_by-none, worth_more}
+use Rattle.brk_store_required.specs.Valuation.{AreValuedSummariesOfAccount}
 use Rattle.brk_store_required.specs.declared.valuation.ValuedSummaries.{ValuedSummaries}
 use Rattle.brk_store_reads.proofs.Retelling.{retold}
 use Rattle.brk_store_reads.proofs.Sequences.{failed_after, read_with}
-use Rattle.brk_store_required.proofs.MarketValues.{total_by-none, worth_more}
 use Rattle.std.proofs.lemmas.Result.{err_from_is_err_and}
 use Rattle.brk_store_reads.specs.ReadSequences.{single_read_changes_nothing}
 use Rattle.brk_store_required.proofs.valuation.read_valued_summaries.Goals as goal
@@ -21,12 +23,29 @@ FirstWorth account rows total i t =
     (map abstract_summary_row rows ≡ filter (λ (r : tables.SummaryRow). r.account == account) t.summaries)
     × (total ≡ total_by (market_value_of_summary t) (map abstract_summary_row (take i rows)))
 
+-- the summaries of an account, and their worth if it is known
+abbrev AreSummaries : ℕ → Vec SummaryRow × Option ℤ → Tables → Type 0
+AreSummaries account held t =
+    (map abstract_summary_row held.0.items ≡ filter (λ (r : tables.SummaryRow). r.account == account) t.summaries)
+    × IfSome held.1 (λ value. value ≡ total_by (market_value_of_summary t) (map abstract_summary_row held.0.items))
+
+pub returns-in-Some : goal.returns-in-Some
+returns-in-Some g c =
+    let account = c.args.account in
+    let all = c.in_ok-rows.rows in
+    let held : ValuedSummaries = record { rows = all; value = c.in-Some.value } in
+    record {
+      read = retold g.S.Store c.args.store.now c.summaries_with_value.new.self (all, Some c.in-Some.value) held
+          (AreSummaries account) (λ held (t : Tables). AreValuedSummariesOfAccount t account held)
+          (λ t are. record { rows = are.0; value = are.1 ∙ ap (total_by (market_value_of_summary t)) are.0 })
+          (rw c.in-Some.is at c.in_ok-rows.ensures.read);
+    }
+
 pub loop-row-init : goal.loop-row-init
 loop-row-init g c =
-    retold g.S.Store c.args.store.now c.read_summaries.new.self c.in_ok-rows.rows tt
-    (λ all (t : Tables). map abstract_summary_row all.items ≡ filter (λ (r : tables.SummaryRow). r.account == c.args.account) t.summaries)
+    retold g.S.Store c.args.store.now c.summaries_with_value.new.self (c.in_ok-rows.rows, c.in_ok-rows.value) tt (AreSummaries c.args.account)
     (λ _. FirstWorth c.args.account c.deref-row-items.result.now c.new-total.result 0)
-    (λ t e. (ap (map abstract_summary_row) c.deref-row-items.ensures.value ∙ e, c.new-total.ensures ∙ sym (total_by-none (market_value_of_summary t))))
+    (λ t are. (ap (map abstract_summary_row) c.deref-row-items.ensures.value ∙ are.0, c.new-total.ensures ∙ sym (total_by-none (market_value_of_summary t))))
     c.in_ok-rows.ensures.read
 
 pub loop-row-preserved : goal.loop-row-preserved
@@ -41,7 +60,7 @@ loop-row-preserved g c =
     (λ _. FirstWorth c.args.account rows sum (i + 1))
     (λ t p e. (
       p.0,
-      e ∙ ap (λ n. n +ℤ market_value_of_summary t (abstract_summary_row row)) p.1 ∙ worth_more t rows i row c.loop-row-test.true c.row-item.is,
+      e ∙ ap (λ n. n +ℤ market_value_of_summary t (abstract_summary_row row)) p.1 ∙ worth_more abstract_summary_row (market_value_of_summary t) rows i row c.loop-row-test.true c.row-item.is,
     ))
     c.loop-row.invariant c.in_ok-sum.ensures.read
 

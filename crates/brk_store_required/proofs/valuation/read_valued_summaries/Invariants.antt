@@ -3,7 +3,7 @@ use Rattle.brk_money.specs.declared.fault.CallFault.{CallFault}
 use Rattle.brk_model.specs.Lists.{total_by}
 use Rattle.brk_ref.specs.Rows.{abstract_summary_row}
 use Rattle.brk_store_transactions.specs.Holds.{ReadPost}
-use Rattle.brk_store_required.specs.Valuation.{market_value_of_summary}
+use Rattle.brk_store_index.specs.Prices.{market_value_of_summary}
 use Rattle.brk_store_required.proofs.valuation.read_valued_summaries.Given as goal
 
 abbrev pub invariant-loop-row : goal.invariant-loop-row

@@ -6,4 +6,4 @@ returns g c =
     let a = c.args in
     let told = one_told g.S.Store a.desk.now c.statement.new.desk a.account a.from a.to c.requires (g.W.Write.contents a.writer.now) (g.W.Write.contents c.statement.new.writer)
     c.statement.result c.statement.ensures.stated in
-    rw c.store_fault_if_refused.ensures told
+    rw c.refusal_as_store_fault.ensures told

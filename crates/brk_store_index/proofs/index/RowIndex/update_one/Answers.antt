@@ -1,6 +1,6 @@
 use Rattle.std.proofs.Common.{rules}
-use Rattle.brk_trade_rows.specs.declared.change.Change.TheVariants.{AddAccount, AddLot, AddLotChange, AddTrade, CompleteTrade, RemoveLot, SetStatus}
-use Rattle.brk_store_index.proofs.Changing.{account_added_if, kept, lot_added_if, lot_change_added_if, lot_removed_if, of_change, status_set_if, trade_added_if, trade_completed_if}
+use Rattle.brk_trade_rows.specs.declared.change.Change.TheVariants.{AddAccount, AddLastTrade, AddLot, AddLotChange, AddTrade, CompleteTrade, RemoveLot, SetStatus}
+use Rattle.brk_store_index.proofs.Changing.{account_added_if, kept, last_trade_added_if, last_trade_set, lot_added_if, lot_change_added_if, lot_removed_if, of_change, status_set_if, trade_added_if, trade_completed_if}
 use Rattle.brk_store_index.proofs.index.RowIndex.update_one.Goals as goal
 
 pub returns-in-AddLot : goal.returns-in-AddLot
@@ -38,6 +38,14 @@ returns-in-AddLotChange c =
     of_change c.insert-in-AddLotChange.result c.args.self.now (record c.args.self.now { changes = c.insert-in-AddLotChange.new.self }) c.args.change.now (AddLotChange c.in-AddLotChange.change) (search rules)
     (lot_change_added_if c.args.self.now c.insert-in-AddLotChange.new.self c.in-AddLotChange.change c.insert-in-AddLotChange.result (rw (c.get-in-AddLotChange.ensures.value, c.of_id-in-AddLotChange.ensures) at c.insert-in-AddLotChange.ensures))
 
+pub returns-in-AddLastTrade : goal.returns-in-AddLastTrade
+returns-in-AddLastTrade c =
+    of_change c.add-in-AddLastTrade.result c.args.self.now (record c.args.self.now { prices = c.add-in-AddLastTrade.new.self }) c.args.change.now (AddLastTrade c.in-AddLastTrade.last) (search rules)
+    (last_trade_added_if c.args.self.now c.add-in-AddLastTrade.new.self c.in-AddLastTrade.last c.add-in-AddLastTrade.result c.add-in-AddLastTrade.ensures)
+
+pub returns-in-SetLastTrade : goal.returns-in-SetLastTrade
+returns-in-SetLastTrade c t is = rw c.in-SetLastTrade.is (last_trade_set c.args.self.now t is c.set.new.self c.in-SetLastTrade.last c.set.ensures)
+
 pub returns-in_default : goal.returns-in_default
 returns-in_default c t is =
     kept c.args.self.now c.args.change.now t
@@ -49,5 +57,7 @@ returns-in_default c t is =
       completed = search rules;
       account_added = search rules;
       lot_change_added = search rules;
+      last_trade_added = search rules;
+      last_trade_set = search rules;
     })
     is

@@ -4,7 +4,7 @@ use Rattle.brk_model.specs.Tables.{Tables}
 use Rattle.brk_store_index.specs.declared.age.RowAge.{RowAge}
 use Rattle.brk_store_reads.specs.RowsByAge.{AreRowsOfAges}
 use Rattle.brk_store_reads.proofs.Retelling.{retold}
-use Rattle.brk_store_reads.proofs.by_age.read_row_if_any.Goals as goal
+use Rattle.brk_store_reads.proofs.by_age.read_optional_row.Goals as goal
 
 pub returns-in-Some-clause-read : goal.returns-in-Some-clause-read
 returns-in-Some-clause-read g c =
