@@ -957,6 +957,8 @@ STATEMENTS = {
     'brk_tables_cash/proofs': [
         (insert, 'AddMove', 'move', [1, 2, 3, 4, 5, 6]),
         (select, 'LastMove', 'move', [], [('CM_ID', True)], ('lit', 1)),
+        (select, 'MoveById', 'move', [('CM_ID', 1)], [('CM_ID', False)]),
+        (select, 'MovesById', 'move', [], [('CM_ID', False)]),
         (select, 'MoveByTrade', 'move', [('CM_T_ID', 1)], [('CM_ID', False)]),
         (select, 'MovementBehind', 'move', [('CM_T_ID', 'null')], [('CM_ID', False)], ('lit', 1), None, 1),
         (update, 'SetCashName', 'move', [('CM_NAME', 1)], [('CM_T_ID', 2)]),

@@ -9,3 +9,5 @@ pub mod ByIndex
 pub mod TradesByIndex
 pub mod ValuesByIndex
 pub mod Definitions
+pub mod RowsOfAccounts
+pub mod Visiting

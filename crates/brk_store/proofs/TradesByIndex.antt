@@ -91,13 +91,13 @@ find_in_filter {X} p q (x ∷ xs) = go (p x) (q x) refl refl (find_in_filter p q
     go false true e f more = rw (e, f, e) more
     go false false e f more = rw (e, f) more
 
-swapped : (a b : Bool) → (a && b) ≡ (b && a)
+pub swapped : (a b : Bool) → (a && b) ≡ (b && a)
 swapped true true = refl
 swapped true false = refl
 swapped false true = refl
 swapped false false = refl
 
-three_tests : {X : Type 0} (p q r s : X → Bool) → ((x : X) → (q x && r x) ≡ s x) → (xs : List X) → filter r (filter q (filter p xs)) ≡ filter (λ x. p x && s x) xs
+pub three_tests : {X : Type 0} (p q r s : X → Bool) → ((x : X) → (q x && r x) ≡ s x) → (xs : List X) → filter r (filter q (filter p xs)) ≡ filter (λ x. p x && s x) xs
 three_tests p q r s same xs = filter_both r q (filter p xs) ∙ filter_both (λ x. q x && r x) p xs ∙ (λ i. filter (λ x. p x && same x i) xs)
 
 -- ---- rows by the index
@@ -113,7 +113,7 @@ told_by_index g conn end store same result shows tells tell read =
 
 module _ {S : Type 0} (g : Ghosts S) (conn : Held S) (index : RowIndex) (is : IndexIsTrue g conn (Made index)) (clean : HasCleanDisk (state g conn)) (on : IsTrue (state g conn).is_open)
     (t : Tables) (holds : HoldsRows g conn t) where
-  index_of_rows : IsIndexOf index t
+  pub index_of_rows : IsIndexOf index t
   index_of_rows =
       let c = is.indexed clean on in
       subst (IsIndexOf index) (one_tables c.0 t (state g conn).now c.1 (holds clean on)) c.2

@@ -19,6 +19,7 @@ mod trades;
 mod trades_by_id;
 mod trades_by_stamp;
 mod updates;
+mod visits;
 pub mod walks;
 
 pub use brk_tables_views::{Visitor, WalkError};

@@ -13,11 +13,28 @@ ghost use Rattle.brk_tables_views.specs.Calling.{IsClosureCallWithLot};
 ghost use Rattle.brk_store.specs.Walked.{CallsClosureWithEachRecord, WalkPost, cash_rows_in_span, completed_trades_by_stamp};
 
 use crate::Store;
+use crate::index::StoreIndex;
+use crate::visits::visit_read_rows;
 use brk_lots::Lot;
 use brk_money::{Fault, Id, Stamp};
 use brk_ref::{CashRow, HoldingRow, TradeRow};
+use brk_store_index::{Group, RowAge};
+use brk_store_reads::cash_by_age::read_cash_rows_between;
+use brk_store_reads::lots_by_symbol::read_lots_by_symbol;
 use brk_tables_views::{ClosureVisitor, LotClosureVisitor, Visitor, WalkError};
 use sqlite::Alter;
+use std::collections::VecDeque;
+
+// A scan passes over some so many rows in the time of one read by key.
+const ROWS_SCANNED_PER_READ: usize = 32;
+
+// True if the reads by key take no longer than a scan of `rows` rows.
+fn are_few(ages: Option<&VecDeque<RowAge>>, rows: usize) -> bool {
+    match ages {
+        Some(ages) => ages.len() <= rows / ROWS_SCANNED_PER_READ,
+        None => true,
+    }
+}
 
 impl<S: Alter> Store<S> {
     /// Passes the cash rows of an account with stamps from `from` to `to`, both included, to a
@@ -35,6 +52,15 @@ impl<S: Alter> Store<S> {
         ensures walked { WalkPost S.Store self.old self.new abstract_cash_row (cash_rows_in_span account from to)
             V.takes V.stops visitor.old visitor.new result }
     {
+        if let StoreIndex::Made(index) = &self.index {
+            let ages = index.ages(&Group::CashRowsOfAccount(account));
+            // CASH_MOVE has about a row for each trade.
+            if are_few(ages, index.number_of_trades()) {
+                let alloc = index.allocator();
+                let rows = read_cash_rows_between(&mut self.conn, alloc, account, ages, from, to);
+                return visit_read_rows::<CashRow, E, V>(rows, visitor);
+            }
+        }
         brk_tables_views::walk_account_cash_rows::<S, E, V>(
             &mut self.conn,
             account,
@@ -57,6 +83,13 @@ impl<S: Alter> Store<S> {
         ensures walked { WalkPost S.Store self.old self.new abstract_holding_row (λ t. holding_rows_of_account t account)
             V.takes V.stops visitor.old visitor.new result }
     {
+        if let StoreIndex::Made(index) = &self.index {
+            let ages = index.ages(&Group::LotsOfAccount(account));
+            if are_few(ages, index.number_of_lots()) {
+                let lots = read_lots_by_symbol(&mut self.conn, index.allocator(), account, ages);
+                return visit_read_rows::<HoldingRow, E, V>(lots, visitor);
+            }
+        }
         brk_tables_views::walk_lots::<S, E, V>(&mut self.conn, account, visitor)
     }
 

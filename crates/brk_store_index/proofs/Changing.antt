@@ -6,12 +6,13 @@ use Rattle.brk_money.specs.Kinds.{is_same_trade_status}
 use Rattle.brk_money.specs.Spelling.{Text}
 use Rattle.brk_money.specs.declared.status.Status.{Status}
 use Rattle.brk_money.specs.declared.status.Status.TheVariants.{Completed, Submitted}
-use Rattle.brk_model.specs.Keys.{KeyPart, is_row_key_less, account_key, holding_key, holding_history_key, last_trade_key, trade_key}
+use Rattle.brk_model.specs.Keys.{KeyPart, is_row_key_less, account_key, holding_key, holding_history_key, last_trade_key, trade_key, cash_move_key}
 use Rattle.brk_model.specs.Lists.{insert_by, update_where}
-use Rattle.brk_model.specs.Tables.{AccountRow, HoldingHistoryRow, HoldingRow, LastTradeRow, Tables, TradeRow}
+use Rattle.brk_model.specs.LookupView.{is_cash_row_of_trade}
+use Rattle.brk_model.specs.Tables.{AccountRow, CashRow, HoldingHistoryRow, HoldingRow, LastTradeRow, Tables, TradeRow}
 use Rattle.brk_trade_rows.specs.Changes.{tables_after_change, tables_after_changes}
 use Rattle.brk_ref.specs.Records.{abstract_account, abstract_last_trade_row}
-use Rattle.brk_ref.specs.Rows.{abstract_holding_row, abstract_lot_change_row, abstract_trade_row}
+use Rattle.brk_ref.specs.Rows.{abstract_cash_row, abstract_holding_row, abstract_lot_change_row, abstract_trade_row}
 use Rattle.brk_trade_rows.specs.declared.change.Change.{Change}
 use Rattle.brk_trade_rows.specs.declared.change.Change.TheVariants.{AddBroker, AddCustomer, AddAccount, AddPermission, AddSecurity, AddLastTrade}
 use Rattle.brk_trade_rows.specs.declared.change.Change.TheVariants.{AddCharge, AddBand, AddTaxRate, AddCustomerTax, AddTrade, SetStatus, AddHistory}
@@ -20,6 +21,7 @@ use Rattle.brk_trade_rows.specs.declared.change.Change.TheVariants.{AddLotChange
 use Rattle.brk_trade_rows.specs.declared.change.Change.TheVariants.{SetBalance, SetBrokerTotals, SetExecutor, SetCashType, SetCashName, SetOneDaySettlementStart}
 use Rattle.brk_trade_rows.specs.declared.change.Change.TheVariants.{AddStoredReply, SetLastStamp}
 use Rattle.brk_ref.specs.declared.account.Account as typed_account
+use Rattle.brk_ref.specs.declared.cash_row.CashRow as typed_cash
 use Rattle.brk_ref.specs.declared.holding_row.HoldingRow as typed_lot
 use Rattle.brk_ref.specs.declared.last_trade.LastTrade as typed_last
 use Rattle.brk_ref.specs.declared.lot_change.LotChange as typed_change
@@ -34,7 +36,7 @@ use Rattle.brk_store_index.specs.declared.trades.TradePlace.{TradePlace}
 use Rattle.brk_store_index.specs.Ages.{AreAgesOf, Has, InsertsAgeIf}
 use Rattle.brk_store_index.specs.Groups.{ages_of_number, ages_of_position, is_same_position}
 use Rattle.brk_store_index.specs.Index.{Group, HasRowsOf, IsIndexOf, ages_at, members}
-use Rattle.brk_store_index.specs.Parts.{AreAccountsOf, AreLotChangesOf, IsIndexOfLots, IsIndexOfTrades, SetsStatus, age_of_id, lot_places, place_of_lot, place_of_trade, trade_places}
+use Rattle.brk_store_index.specs.Parts.{AreAccountsOf, AreCashRowsOf, AreLotChangesOf, IsIndexOfLots, IsIndexOfTrades, SetsStatus, age_of_cash_row, age_of_id, lot_places, place_of_lot, place_of_trade, trade_places}
 use Rattle.brk_store_index.specs.Prices.{AddsPrice, AreLastPricesOf, SetsPrice}
 use Rattle.brk_store_index.proofs.Aged.{ages_mapped, ages_same, ages_with}
 use Rattle.brk_store_index.proofs.Elements.{behind, front, has_inserted, inserted_has}
@@ -50,6 +52,7 @@ pub record PartsOf (index : RowIndex) (t : Tables) : Type 0 where
   pub trades : IsIndexOfTrades index.trades t.trades
   pub accounts : AreAccountsOf index.accounts t.accounts
   pub changes : AreLotChangesOf index.changes t.holding_history
+  pub cash : AreCashRowsOf index.cash t.moves
   pub prices : AreLastPricesOf index.prices t.last_trades
 
 pub whole : (index : RowIndex) (t : Tables) → PartsOf index t → IsIndexOf index t
@@ -59,6 +62,9 @@ whole index t parts = record { groups = groups; lot_places = parts.lots.places; 
     groups (Group.Position account symbol) =
         ages_of_rows (λ (r : HoldingRow). r.trade) place_of_lot (lot_places index.lots) t.holdings parts.lots.places (λ (p : LotPlace). is_same_position p.account p.symbol account symbol) (λ (p : LotPlace). p.stamp)
         (ages_of_position index.lots.positions account symbol) (parts.lots.positions account symbol)
+    groups (Group.LotsOfAccount account) =
+        ages_of_rows (λ (r : HoldingRow). r.trade) place_of_lot (lot_places index.lots) t.holdings parts.lots.places (λ (p : LotPlace). p.account == account) (λ p. 0)
+        (ages_of_number index.lots.accounts account) (parts.lots.accounts account)
     groups (Group.TradesOfAccount account) =
         ages_of_rows (λ (r : TradeRow). r.id) place_of_trade (trade_places index.trades) t.trades parts.trades.places (λ (p : TradePlace). p.account == account) (λ (p : TradePlace). p.stamp)
         (ages_of_number index.trades.accounts account) (parts.trades.accounts account)
@@ -69,12 +75,16 @@ whole index t parts = record { groups = groups; lot_places = parts.lots.places; 
         ages_of_rows (λ (r : TradeRow). r.id) place_of_trade (trade_places index.trades) t.trades parts.trades.places (λ (p : TradePlace). p.is_submitted) (λ p. 0)
         index.trades.submitted.items parts.trades.submitted
     groups (Group.AccountsOfCustomer customer) = parts.accounts customer
+    groups (Group.CashRowsOfAccount account) = parts.cash account
     groups (Group.LotChangesOfTrade trade) = parts.changes trade
 
 pub parts_of : (index : RowIndex) (t : Tables) → IsIndexOf index t → PartsOf index t
 parts_of index t is = record {
   lots = record {
     places = is.lot_places;
+    accounts = λ account.
+        follows_rows (λ (r : HoldingRow). r.trade) place_of_lot (lot_places index.lots) t.holdings is.lot_places (λ (p : LotPlace). p.account == account) (λ p. 0)
+        (ages_of_number index.lots.accounts account) (is.groups (Group.LotsOfAccount account));
     positions = λ account symbol.
         follows_rows (λ (r : HoldingRow). r.trade) place_of_lot (lot_places index.lots) t.holdings is.lot_places (λ (p : LotPlace). is_same_position p.account p.symbol account symbol) (λ (p : LotPlace). p.stamp)
         (ages_of_position index.lots.positions account symbol) (is.groups (Group.Position account symbol));
@@ -93,25 +103,27 @@ parts_of index t is = record {
   };
   accounts = λ customer. is.groups (Group.AccountsOfCustomer customer);
   changes = λ trade. is.groups (Group.LotChangesOfTrade trade);
+  cash = λ account. is.groups (Group.CashRowsOfAccount account);
   prices = is.last_prices;
 }
 
-pub index_of_rows : (index : RowIndex) (lots : List HoldingRow) (trades : List TradeRow) (accounts : List AccountRow) (changes : List HoldingHistoryRow) (last_trades : List LastTradeRow)
+pub index_of_rows : (index : RowIndex) (lots : List HoldingRow) (trades : List TradeRow) (accounts : List AccountRow) (changes : List HoldingHistoryRow) (cash : List CashRow) (last_trades : List LastTradeRow)
     → IsIndexOfLots index.lots lots → IsIndexOfTrades index.trades trades → AreAccountsOf index.accounts accounts → AreLotChangesOf index.changes changes
-    → AreLastPricesOf index.prices last_trades → (t : Tables) → HasRowsOf t lots trades accounts changes last_trades → IsIndexOf index t
-index_of_rows index lots trades accounts changes last_trades l r a c p t has =
+    → AreCashRowsOf index.cash cash → AreLastPricesOf index.prices last_trades → (t : Tables) → HasRowsOf t lots trades accounts changes cash last_trades → IsIndexOf index t
+index_of_rows index lots trades accounts changes cash last_trades l r a c m p t has =
     whole index t (record {
       lots = subst (IsIndexOfLots index.lots) (sym has.lot_rows) l;
       trades = subst (IsIndexOfTrades index.trades) (sym has.trade_rows) r;
       accounts = subst (AreAccountsOf index.accounts) (sym has.account_rows) a;
       changes = subst (AreLotChangesOf index.changes) (sym has.lot_changes) c;
+      cash = subst (AreCashRowsOf index.cash) (sym has.cash_rows) m;
       prices = subst (AreLastPricesOf index.prices) (sym has.last_trade_rows) p;
     })
 
 -- ---- lists with the same elements
 
 pub lots_same : (lots : LotGroups) (xs ys : List HoldingRow) → ((y : HoldingRow) → Has ys y → Has xs y) → ((x : HoldingRow) → Has xs x → Has ys x) → IsIndexOfLots lots xs → IsIndexOfLots lots ys
-lots_same lots xs ys from onto is = record { places = places_same (λ (r : HoldingRow). r.trade) place_of_lot (lot_places lots) xs ys from onto is.places; positions = is.positions }
+lots_same lots xs ys from onto is = record { places = places_same (λ (r : HoldingRow). r.trade) place_of_lot (lot_places lots) xs ys from onto is.places; accounts = is.accounts; positions = is.positions }
 
 pub accounts_same : (groups : AgesByNumber) (xs ys : List AccountRow) → ((y : AccountRow) → Has ys y → Has xs y) → ((x : AccountRow) → Has xs x → Has ys x) → AreAccountsOf groups xs → AreAccountsOf groups ys
 accounts_same groups xs ys from onto is customer = ages_same (λ (r : AccountRow). r.customer == customer) (λ (r : AccountRow). age_of_id r.id) (ages_of_number groups customer) xs ys from onto (is customer)
@@ -119,6 +131,9 @@ accounts_same groups xs ys from onto is customer = ages_same (λ (r : AccountRow
 pub lot_changes_same : (groups : AgesByNumber) (xs ys : List HoldingHistoryRow) → ((y : HoldingHistoryRow) → Has ys y → Has xs y) → ((x : HoldingHistoryRow) → Has xs x → Has ys x)
     → AreLotChangesOf groups xs → AreLotChangesOf groups ys
 lot_changes_same groups xs ys from onto is trade = ages_same (λ (r : HoldingHistoryRow). r.trade == trade) (λ (r : HoldingHistoryRow). age_of_id r.lot) (ages_of_number groups trade) xs ys from onto (is trade)
+
+pub cash_rows_same : (groups : AgesByNumber) (xs ys : List CashRow) → ((y : CashRow) → Has ys y → Has xs y) → ((x : CashRow) → Has xs x → Has ys x) → AreCashRowsOf groups xs → AreCashRowsOf groups ys
+cash_rows_same groups xs ys from onto is account = ages_same (λ (r : CashRow). r.account == account) age_of_cash_row (ages_of_number groups account) xs ys from onto (is account)
 
 -- ---- one row more
 
@@ -131,6 +146,11 @@ pub lot_changes_with : (old new : AgesByNumber) (r : HoldingHistoryRow) (rows : 
     → ((q : ℕ) → InsertsAgeIf (r.trade == q) (ages_of_number old q) (age_of_id r.lot) (ages_of_number new q)) → AreLotChangesOf old rows → AreLotChangesOf new (r ∷ rows)
 lot_changes_with old new r rows inserts is trade =
     ages_with (λ (x : HoldingHistoryRow). x.trade == trade) (λ (x : HoldingHistoryRow). age_of_id x.lot) r rows (ages_of_number old trade) (ages_of_number new trade) (inserts trade) (is trade)
+
+pub cash_rows_with : (old new : AgesByNumber) (r : CashRow) (rows : List CashRow) → ((q : ℕ) → InsertsAgeIf (r.account == q) (ages_of_number old q) (age_of_cash_row r) (ages_of_number new q))
+    → AreCashRowsOf old rows → AreCashRowsOf new (r ∷ rows)
+cash_rows_with old new r rows inserts is account =
+    ages_with (λ (x : CashRow). x.account == account) age_of_cash_row r rows (ages_of_number old account) (ages_of_number new account) (inserts account) (is account)
 
 -- a row in front is as good as a row that is inserted
 in_table : {Row : Type 0} (key : Row → List KeyPart) (P : List Row → Type 0)
@@ -147,23 +167,27 @@ module _ (old : RowIndex) (t : Tables) (is : IsIndexOf old t) where
 
   with_lots : (lots : LotGroups) (rows : List HoldingRow) → IsIndexOfLots lots rows → IsIndexOf (record old { lots = lots }) (record t { holdings = rows })
   with_lots lots rows l =
-      whole (record old { lots = lots }) (record t { holdings = rows }) (record { lots = l; trades = parts.trades; accounts = parts.accounts; changes = parts.changes; prices = parts.prices })
+      whole (record old { lots = lots }) (record t { holdings = rows }) (record { lots = l; trades = parts.trades; accounts = parts.accounts; changes = parts.changes; cash = parts.cash; prices = parts.prices })
 
   with_trades : (trades : TradeGroups) (rows : List TradeRow) → IsIndexOfTrades trades rows → IsIndexOf (record old { trades = trades }) (record t { trades = rows })
   with_trades trades rows r =
-      whole (record old { trades = trades }) (record t { trades = rows }) (record { lots = parts.lots; trades = r; accounts = parts.accounts; changes = parts.changes; prices = parts.prices })
+      whole (record old { trades = trades }) (record t { trades = rows }) (record { lots = parts.lots; trades = r; accounts = parts.accounts; changes = parts.changes; cash = parts.cash; prices = parts.prices })
 
   with_accounts : (accounts : AgesByNumber) (rows : List AccountRow) → AreAccountsOf accounts rows → IsIndexOf (record old { accounts = accounts }) (record t { accounts = rows })
   with_accounts accounts rows a =
-      whole (record old { accounts = accounts }) (record t { accounts = rows }) (record { lots = parts.lots; trades = parts.trades; accounts = a; changes = parts.changes; prices = parts.prices })
+      whole (record old { accounts = accounts }) (record t { accounts = rows }) (record { lots = parts.lots; trades = parts.trades; accounts = a; changes = parts.changes; cash = parts.cash; prices = parts.prices })
 
   with_changes : (changes : AgesByNumber) (rows : List HoldingHistoryRow) → AreLotChangesOf changes rows → IsIndexOf (record old { changes = changes }) (record t { holding_history = rows })
   with_changes changes rows c =
-      whole (record old { changes = changes }) (record t { holding_history = rows }) (record { lots = parts.lots; trades = parts.trades; accounts = parts.accounts; changes = c; prices = parts.prices })
+      whole (record old { changes = changes }) (record t { holding_history = rows }) (record { lots = parts.lots; trades = parts.trades; accounts = parts.accounts; changes = c; cash = parts.cash; prices = parts.prices })
 
   with_prices : (prices : LastPrices) (rows : List LastTradeRow) → AreLastPricesOf prices rows → IsIndexOf (record old { prices = prices }) (record t { last_trades = rows })
   with_prices prices rows p =
-      whole (record old { prices = prices }) (record t { last_trades = rows }) (record { lots = parts.lots; trades = parts.trades; accounts = parts.accounts; changes = parts.changes; prices = p })
+      whole (record old { prices = prices }) (record t { last_trades = rows }) (record { lots = parts.lots; trades = parts.trades; accounts = parts.accounts; changes = parts.changes; cash = parts.cash; prices = p })
+
+  with_cash : (cash : AgesByNumber) (rows : List CashRow) → AreCashRowsOf cash rows → IsIndexOf (record old { cash = cash }) (record t { moves = rows })
+  with_cash cash rows m =
+      whole (record old { cash = cash }) (record t { moves = rows }) (record { lots = parts.lots; trades = parts.trades; accounts = parts.accounts; changes = parts.changes; cash = m; prices = parts.prices })
 
   pub lot_added : (lots : LotGroups) (row : typed_lot.HoldingRow) → ((rows : List HoldingRow) → IsIndexOfLots old.lots rows → IsIndexOfLots lots (abstract_holding_row row ∷ rows))
       → IsIndexOf (record old { lots = lots }) (tables_after_change (AddLot row) t)
@@ -215,6 +239,14 @@ module _ (old : RowIndex) (t : Tables) (is : IsIndexOf old t) where
       with_changes changes (insert_by (is_row_key_less holding_history_key) r t.holding_history)
       (in_table holding_history_key (AreLotChangesOf changes) (lot_changes_same changes) r t.holding_history (lot_changes_with old.changes changes r t.holding_history inserts parts.changes))
 
+  pub cash_row_added : (cash : AgesByNumber) (row : typed_cash.CashRow)
+      → ((q : ℕ) → InsertsAgeIf ((abstract_cash_row row).account == q) (ages_of_number old.cash q) (age_of_cash_row (abstract_cash_row row)) (ages_of_number cash q))
+      → IsIndexOf (record old { cash = cash }) (tables_after_change (AddMove row) t)
+  cash_row_added cash row inserts =
+      let r = abstract_cash_row row in
+      with_cash cash (insert_by (is_row_key_less cash_move_key) r t.moves)
+      (in_table cash_move_key (AreCashRowsOf cash) (cash_rows_same cash) r t.moves (cash_rows_with old.cash cash r t.moves inserts parts.cash))
+
   pub last_trade_added : (prices : LastPrices) (l : typed_last.LastTrade) → AddsPrice old.prices l.symbol l.price prices
       → IsIndexOf (record old { prices = prices }) (tables_after_change (AddLastTrade l) t)
   last_trade_added prices l adds =
@@ -236,6 +268,7 @@ module _ (old : RowIndex) (t : Tables) (is : IsIndexOf old t) where
       with_lots old.lots (map (with_quantity trade qty) t.holdings)
       (record {
         places = places_mapped (λ (r : HoldingRow). r.trade) place_of_lot (with_quantity trade qty) (λ r. go r (r.trade == trade)) (lot_places old.lots) t.holdings parts.lots.places;
+        accounts = parts.lots.accounts;
         positions = parts.lots.positions;
       })
     where
@@ -273,6 +306,20 @@ module _ (old : RowIndex) (t : Tables) (is : IsIndexOf old t) where
           → (((cond b (record r { balance = balance }) r).customer == customer) ≡ (r.customer == customer)) × (age_of_id (cond b (record r { balance = balance }) r).id ≡ age_of_id r.id)
       go customer r true = (refl, refl)
       go customer r false = (refl, refl)
+
+  abbrev with_cash_name : ℕ → Text → CashRow → CashRow
+  with_cash_name trade name r = cond (is_cash_row_of_trade trade r) (record r { name = name }) r
+
+  cash_name_set : (trade : ℕ) (name : Text) → IsIndexOf old (record t { moves = map (λ r. cond (is_cash_row_of_trade trade r) (record r { name = name }) r) t.moves })
+  cash_name_set trade name =
+      with_cash old.cash (map (with_cash_name trade name) t.moves)
+      (λ account. ages_mapped (λ (r : CashRow). r.account == account) age_of_cash_row (with_cash_name trade name) (λ r. go account r (is_cash_row_of_trade trade r)) (ages_of_number old.cash account) t.moves
+      (parts.cash account))
+    where
+      go : (account : ℕ) (r : CashRow) (b : Bool)
+          → (((cond b (record r { name = name }) r).account == account) ≡ (r.account == account)) × (age_of_cash_row (cond b (record r { name = name }) r) ≡ age_of_cash_row r)
+      go account r true = (refl, refl)
+      go account r false = (refl, refl)
 
 -- ---- the same of a call that may fail
 
@@ -327,6 +374,12 @@ pub last_trade_added_if : {E : Type 0} (old : RowIndex) (prices : LastPrices) (l
 last_trade_added_if old prices l (Ok v) h = λ t is. last_trade_added old t is prices l h
 last_trade_added_if old prices l (Err e) h = tt
 
+pub cash_row_added_if : {E : Type 0} (old : RowIndex) (cash : AgesByNumber) (row : typed_cash.CashRow) (r : Result (Unit {0}) E)
+    → OnOk r ((q : ℕ) → InsertsAgeIf ((abstract_cash_row row).account == q) (ages_of_number old.cash q) (age_of_cash_row (abstract_cash_row row)) (ages_of_number cash q))
+    → OnOk r ((t : Tables) → IsIndexOf old t → IsIndexOf (record old { cash = cash }) (tables_after_change (AddMove row) t))
+cash_row_added_if old cash row (Ok v) h = λ t is. cash_row_added old t is cash row h
+cash_row_added_if old cash row (Err e) h = tt
+
 pub of_change : {E : Type 0} (r : Result (Unit {0}) E) (old new : RowIndex) (change k : Change) → change ≡ k → OnOk r ((t : Tables) → IsIndexOf old t → IsIndexOf new (tables_after_change k t))
     → OnOk r ((t : Tables) → IsIndexOf old t → IsIndexOf new (tables_after_change change t))
 of_change r old new change k e h = subst (λ (c : Change). OnOk r ((t : Tables) → IsIndexOf old t → IsIndexOf new (tables_after_change c t))) (sym e) h
@@ -342,16 +395,17 @@ pub record IsOther (change : Change) : Type 0 where
   pub completed : (id stamp price commission tax : ℕ) → change ≡ CompleteTrade id stamp price commission tax → ⊥
   pub account_added : (a : typed_account.Account) → change ≡ AddAccount a → ⊥
   pub lot_change_added : (c : typed_change.LotChange) → change ≡ AddLotChange c → ⊥
+  pub cash_row_added : (row : typed_cash.CashRow) → change ≡ AddMove row → ⊥
   pub last_trade_added : (l : typed_last.LastTrade) → change ≡ AddLastTrade l → ⊥
   pub last_trade_set : (l : typed_last.LastTrade) → change ≡ SetLastTrade l → ⊥
 
--- tables of which the five tables of the index are equal
+-- tables of which the six tables of the index are equal
 unread : (index : RowIndex) (t u : Tables) → u.holdings ≡ t.holdings → u.trades ≡ t.trades → u.accounts ≡ t.accounts → u.holding_history ≡ t.holding_history
-    → u.last_trades ≡ t.last_trades → IsIndexOf index t → IsIndexOf index u
-unread index t u h r a c l is =
+    → u.moves ≡ t.moves → u.last_trades ≡ t.last_trades → IsIndexOf index t → IsIndexOf index u
+unread index t u h r a c m l is =
     let p = parts_of index t is in
-    index_of_rows index t.holdings t.trades t.accounts t.holding_history t.last_trades p.lots p.trades p.accounts p.changes p.prices u
-    (record { lot_rows = h; trade_rows = r; account_rows = a; lot_changes = c; last_trade_rows = l })
+    index_of_rows index t.holdings t.trades t.accounts t.holding_history t.moves t.last_trades p.lots p.trades p.accounts p.changes p.cash p.prices u
+    (record { lot_rows = h; trade_rows = r; account_rows = a; lot_changes = c; cash_rows = m; last_trade_rows = l })
 
 pub kept : (index : RowIndex) (change : Change) (t : Tables) → IsOther change → IsIndexOf index t → IsIndexOf index (tables_after_change change t)
 kept index (AddLot row) t other is = absurd (other.lot_added row refl)
@@ -361,33 +415,33 @@ kept index (SetStatus id status stamp) t other is = absurd (other.status_set id 
 kept index (CompleteTrade id stamp price commission tax) t other is = absurd (other.completed id stamp price commission tax refl)
 kept index (AddAccount a) t other is = absurd (other.account_added a refl)
 kept index (AddLotChange c) t other is = absurd (other.lot_change_added c refl)
+kept index (AddMove row) t other is = absurd (other.cash_row_added row refl)
 kept index (AddLastTrade l) t other is = absurd (other.last_trade_added l refl)
 kept index (SetLastTrade l) t other is = absurd (other.last_trade_set l refl)
 kept index (SetLot trade qty) t other is = quantity_set index t is trade qty
 kept index (SetExecutor trade name) t other is = executor_set index t is trade (string_bytes name)
 kept index (SetBalance account balance) t other is = balance_set index t is account balance
-kept index (AddBroker x) t other is = unread index t (tables_after_change (AddBroker x) t) refl refl refl refl refl is
-kept index (AddCustomer x) t other is = unread index t (tables_after_change (AddCustomer x) t) refl refl refl refl refl is
-kept index (AddPermission x) t other is = unread index t (tables_after_change (AddPermission x) t) refl refl refl refl refl is
-kept index (AddSecurity x) t other is = unread index t (tables_after_change (AddSecurity x) t) refl refl refl refl refl is
-kept index (AddCharge x) t other is = unread index t (tables_after_change (AddCharge x) t) refl refl refl refl refl is
-kept index (AddBand x) t other is = unread index t (tables_after_change (AddBand x) t) refl refl refl refl refl is
-kept index (AddTaxRate x) t other is = unread index t (tables_after_change (AddTaxRate x) t) refl refl refl refl refl is
-kept index (AddCustomerTax x) t other is = unread index t (tables_after_change (AddCustomerTax x) t) refl refl refl refl refl is
-kept index (AddHistory x) t other is = unread index t (tables_after_change (AddHistory x) t) refl refl refl refl refl is
-kept index (AddRequest x) t other is = unread index t (tables_after_change (AddRequest x) t) refl refl refl refl refl is
-kept index (RemoveRequest x) t other is = unread index t (tables_after_change (RemoveRequest x) t) refl refl refl refl refl is
-kept index (AddSummary x) t other is = unread index t (tables_after_change (AddSummary x) t) refl refl refl refl refl is
-kept index (SetSummary x) t other is = unread index t (tables_after_change (SetSummary x) t) refl refl refl refl refl is
-kept index (RemoveSummary x y) t other is = unread index t (tables_after_change (RemoveSummary x y) t) refl refl refl refl refl is
-kept index (AddSettlement x) t other is = unread index t (tables_after_change (AddSettlement x) t) refl refl refl refl refl is
-kept index (AddMove x) t other is = unread index t (tables_after_change (AddMove x) t) refl refl refl refl refl is
-kept index (SetBrokerTotals x y z) t other is = unread index t (tables_after_change (SetBrokerTotals x y z) t) refl refl refl refl refl is
-kept index (SetCashType x y) t other is = unread index t (tables_after_change (SetCashType x y) t) refl refl refl refl refl is
-kept index (SetCashName x y) t other is = unread index t (tables_after_change (SetCashName x y) t) refl refl refl refl refl is
-kept index (SetOneDaySettlementStart x) t other is = unread index t (tables_after_change (SetOneDaySettlementStart x) t) refl refl refl refl refl is
-kept index (AddStoredReply x) t other is = unread index t (tables_after_change (AddStoredReply x) t) refl refl refl refl refl is
-kept index (SetLastStamp x) t other is = unread index t (tables_after_change (SetLastStamp x) t) refl refl refl refl refl is
+kept index (SetCashName trade name) t other is = cash_name_set index t is trade (string_bytes name)
+kept index (AddBroker x) t other is = unread index t (tables_after_change (AddBroker x) t) refl refl refl refl refl refl is
+kept index (AddCustomer x) t other is = unread index t (tables_after_change (AddCustomer x) t) refl refl refl refl refl refl is
+kept index (AddPermission x) t other is = unread index t (tables_after_change (AddPermission x) t) refl refl refl refl refl refl is
+kept index (AddSecurity x) t other is = unread index t (tables_after_change (AddSecurity x) t) refl refl refl refl refl refl is
+kept index (AddCharge x) t other is = unread index t (tables_after_change (AddCharge x) t) refl refl refl refl refl refl is
+kept index (AddBand x) t other is = unread index t (tables_after_change (AddBand x) t) refl refl refl refl refl refl is
+kept index (AddTaxRate x) t other is = unread index t (tables_after_change (AddTaxRate x) t) refl refl refl refl refl refl is
+kept index (AddCustomerTax x) t other is = unread index t (tables_after_change (AddCustomerTax x) t) refl refl refl refl refl refl is
+kept index (AddHistory x) t other is = unread index t (tables_after_change (AddHistory x) t) refl refl refl refl refl refl is
+kept index (AddRequest x) t other is = unread index t (tables_after_change (AddRequest x) t) refl refl refl refl refl refl is
+kept index (RemoveRequest x) t other is = unread index t (tables_after_change (RemoveRequest x) t) refl refl refl refl refl refl is
+kept index (AddSummary x) t other is = unread index t (tables_after_change (AddSummary x) t) refl refl refl refl refl refl is
+kept index (SetSummary x) t other is = unread index t (tables_after_change (SetSummary x) t) refl refl refl refl refl refl is
+kept index (RemoveSummary x y) t other is = unread index t (tables_after_change (RemoveSummary x y) t) refl refl refl refl refl refl is
+kept index (AddSettlement x) t other is = unread index t (tables_after_change (AddSettlement x) t) refl refl refl refl refl refl is
+kept index (SetBrokerTotals x y z) t other is = unread index t (tables_after_change (SetBrokerTotals x y z) t) refl refl refl refl refl refl is
+kept index (SetCashType x y) t other is = unread index t (tables_after_change (SetCashType x y) t) refl refl refl refl refl refl is
+kept index (SetOneDaySettlementStart x) t other is = unread index t (tables_after_change (SetOneDaySettlementStart x) t) refl refl refl refl refl refl is
+kept index (AddStoredReply x) t other is = unread index t (tables_after_change (AddStoredReply x) t) refl refl refl refl refl refl is
+kept index (SetLastStamp x) t other is = unread index t (tables_after_change (SetLastStamp x) t) refl refl refl refl refl refl is
 
 -- ---- one change after another
 

@@ -18,12 +18,12 @@ insert_same : {X : Type 0} (less more : X → X → Bool) → ((x y : X) → les
 insert_same less more agree x [] = refl
 insert_same less more agree x (y ∷ ys) = ap₂ (λ b l. cond b (y ∷ l) (x ∷ y ∷ ys)) (agree y x) (insert_same less more agree x ys)
 
-sort_same : {X : Type 0} (less more : X → X → Bool) → ((x y : X) → less x y ≡ more x y) → (xs : List X) → sort_by less xs ≡ sort_by more xs
+pub sort_same : {X : Type 0} (less more : X → X → Bool) → ((x y : X) → less x y ≡ more x y) → (xs : List X) → sort_by less xs ≡ sort_by more xs
 unfolding sort_by
 sort_same less more agree [] = refl
 sort_same less more agree (x ∷ xs) = insert_same less more agree x (sort_by less xs) ∙ ap (insert_by more x) (sort_same less more agree xs)
 
-less_numbers : (a b c d : ℕ) → (nat_lt a c || (not (nat_lt c a) && (nat_lt b d || (not (nat_lt d b) && false)))) ≡ (nat_lt a c || ((a == c) && nat_lt b d))
+pub less_numbers : (a b c d : ℕ) → (nat_lt a c || (not (nat_lt c a) && (nat_lt b d || (not (nat_lt d b) && false)))) ≡ (nat_lt a c || ((a == c) && nat_lt b d))
 less_numbers a b c d = grind (arith, nat_tests)
 
 lots_sorted : (rows : List HoldingRow) → lots_oldest_first rows ≡ sort_by (is_row_older (λ (r : HoldingRow). r.trade) (λ (r : HoldingRow). r.stamp)) rows

@@ -4,7 +4,7 @@ use Rattle.std.specs.HashMap.{get}
 use Rattle.brk_money.specs.Kinds.{is_same_trade_status}
 use Rattle.brk_money.specs.Spelling.{Text}
 use Rattle.brk_money.specs.declared.status.Status.TheVariants.{Submitted}
-use Rattle.brk_model.specs.Tables.{AccountRow, HoldingHistoryRow, HoldingRow, TradeRow}
+use Rattle.brk_model.specs.Tables.{AccountRow, CashRow, HoldingHistoryRow, HoldingRow, TradeRow}
 use Rattle.brk_store_index.specs.Ages.{AreAgesOf, Has, InsertsAgeIf, IsRising, RemovesAgeIf}
 use Rattle.brk_store_index.specs.Groups.{ages_of_number, ages_of_position, is_same_position}
 use Rattle.brk_store_index.specs.declared.age.RowAge.{RowAge}
@@ -23,6 +23,10 @@ age_of_id id = record { stamp = 0; id = id }
 -- The age of the lot in a row of HOLDING.
 abbrev pub age_of_lot : HoldingRow → RowAge
 age_of_lot r = record { stamp = r.stamp; id = r.trade }
+
+-- The age of a cash row: its stamp, and its number.
+abbrev pub age_of_cash_row : CashRow → RowAge
+age_of_cash_row r = record { stamp = r.stamp; id = r.id }
 
 -- The age of a trade: the stamp of its last status, and its id.
 abbrev pub age_of_trade : TradeRow → RowAge
@@ -56,9 +60,10 @@ lot_places lots trade = get nat_eq lots.places trade
 abbrev pub ArePlacesOfLots : LotGroups → List HoldingRow → Type 0
 ArePlacesOfLots lots rows = ArePlacesOf (λ (r : HoldingRow). r.trade) place_of_lot (lot_places lots) rows
 
--- For each position the index has exactly the ages of its rows of HOLDING.
+-- For each position and each account the index has exactly the ages of its rows of HOLDING.
 pub record IsIndexOfLots (lots : LotGroups) (rows : List HoldingRow) : Type 0 where
   pub places : ArePlacesOfLots lots rows
+  pub accounts : (account : ℕ) → FollowPlaces (lot_places lots) (λ (p : LotPlace). p.account == account) (λ p. 0) (ages_of_number lots.accounts account)
   pub positions : (account : ℕ) (symbol : Text) →
       FollowPlaces (lot_places lots) (λ (p : LotPlace). is_same_position p.account p.symbol account symbol) (λ (p : LotPlace). p.stamp) (ages_of_position lots.positions account symbol)
 
@@ -110,7 +115,7 @@ pub record SetsStatus (is_submitted : Bool) (stamp : ℕ) (set : TradeRow → Tr
   pub id : (r : TradeRow) → (set r).id ≡ r.id
   pub place : (r : TradeRow) → place_of_trade (set r) ≡ record { account = r.account; symbol = r.symbol; stamp = stamp; is_submitted = is_submitted }
 
--- ---- accounts and changes of lots
+-- ---- accounts, changes of lots and cash rows
 
 -- For each customer the groups have exactly the ages of its rows of CUSTOMER_ACCOUNT.
 abbrev pub AreAccountsOf : AgesByNumber → List AccountRow → Type 0
@@ -121,3 +126,8 @@ AreAccountsOf groups rows = (customer : ℕ) → AreAgesOf (ages_of_number group
 abbrev pub AreLotChangesOf : AgesByNumber → List HoldingHistoryRow → Type 0
 AreLotChangesOf groups rows = (trade : ℕ) → AreAgesOf (ages_of_number groups trade)
     (map (λ (r : HoldingHistoryRow). age_of_id r.lot) (filter (λ (r : HoldingHistoryRow). r.trade == trade) rows))
+
+-- For each account the groups have exactly the ages of its rows of CASH_MOVE.
+abbrev pub AreCashRowsOf : AgesByNumber → List CashRow → Type 0
+AreCashRowsOf groups rows = (account : ℕ) → AreAgesOf (ages_of_number groups account)
+    (map age_of_cash_row (filter (λ (r : CashRow). r.account == account) rows))

@@ -1,12 +1,13 @@
 //! The age of a row: a stamp, and the id of the row.
 
-ghost use Rattle.std.specs.Prelude.{◌≡◌};
+ghost use Rattle.std.specs.Prelude.{◌≡◌, IfOk};
 ghost use Rattle.brk_store_index.specs.Ages.{is_older};
-ghost use Rattle.brk_store_index.specs.Parts.{age_of_id, age_of_lot};
-ghost use Rattle.brk_ref.specs.Rows.{abstract_holding_row};
+ghost use Rattle.brk_store_index.specs.Parts.{age_of_cash_row, age_of_id, age_of_lot};
+ghost use Rattle.brk_ref.specs.Rows.{abstract_cash_row, abstract_holding_row};
 
+use crate::lost::IndexLost;
 use brk_money::{Id, Stamp};
-use brk_ref::HoldingRow;
+use brk_ref::{CashRow, HoldingRow};
 
 /// The stamp by which a row is sorted, and its id. Rows that are sorted by id alone have the stamp 0.
 #[derive(Clone, Copy)]
@@ -31,6 +32,19 @@ impl RowAge {
         RowAge {
             stamp: lot.stamp,
             id: lot.trade,
+        }
+    }
+
+    // Fails if the number of the row is greater than any id.
+    pub(crate) fn of_cash_row(row: &CashRow) -> Result<RowAge, IndexLost>
+        ensures { IfOk result (λ age. age ≡ age_of_cash_row (abstract_cash_row row.now)) }
+    {
+        match Id::new(row.id.get()) {
+            Some(id) => Ok(RowAge {
+                stamp: row.stamp,
+                id,
+            }),
+            None => Err(IndexLost),
         }
     }
 

@@ -14,7 +14,7 @@ use std::collections::{HashMap, VecDeque};
 /// The ages of the rows of each group, by the number of the group.
 #[derive(Drop)]
 pub(crate) struct AgesByNumber {
-    alloc: Global,
+    pub(crate) alloc: Global,
     groups: HashMap<u64, VecDeque<RowAge>>,
 }
 

@@ -1,17 +1,18 @@
 //! The index: made of rows, updated by row changes, and read by group.
 
-ghost use Rattle.std.specs.Prelude.{◌≡◌, ℕ, IfOk, IfSome, List, OnOk, [], map};
+ghost use Rattle.std.specs.Prelude.{◌≡◌, ◌==◌, ℕ, IfOk, IfSome, List, OnOk, [], map};
 ghost use Rattle.std.specs.Option.{option_copied};
 ghost use Rattle.brk_money.specs.Kinds.{is_same_trade_status};
 ghost use Rattle.brk_money.specs.declared.status.Status.TheVariants.{Submitted};
 ghost use Rattle.brk_trade_rows.specs.Changes.{tables_after_change, tables_after_changes};
 ghost use Rattle.brk_ref.specs.Records.{abstract_account_row, abstract_last_trade_row};
-ghost use Rattle.brk_ref.specs.Rows.{abstract_holding_row, abstract_lot_change_row, abstract_summary_row, abstract_trade_row};
+ghost use Rattle.brk_ref.specs.Rows.{abstract_cash_row, abstract_holding_row, abstract_lot_change_row, abstract_summary_row, abstract_trade_row};
 ghost use Rattle.brk_model.specs.Lists.{total_by};
 ghost use Rattle.brk_model.specs.Tables.{Tables};
-ghost use Rattle.brk_store_index.specs.Ages.{ages_in};
+ghost use Rattle.brk_store_index.specs.Ages.{InsertsAgeIf, ages_in};
+ghost use Rattle.brk_store_index.specs.Groups.{ages_of_number};
 ghost use Rattle.brk_store_index.specs.Index.{HasRowsOf, IsIndexOf, abstract_group, ages_at, number_of_lots};
-ghost use Rattle.brk_store_index.specs.Parts.{AreAccountsOf, AreLotChangesOf};
+ghost use Rattle.brk_store_index.specs.Parts.{AreAccountsOf, AreCashRowsOf, AreLotChangesOf, age_of_cash_row};
 ghost use Rattle.brk_store_index.specs.Prices.{market_value_of_summary};
 
 use crate::age::RowAge;
@@ -22,7 +23,7 @@ use crate::lots::LotGroups;
 use crate::prices::LastPrices;
 use crate::trades::TradeGroups;
 use brk_money::{Status, Wide};
-use brk_ref::{AccountRow, HoldingRow, LastTrade, LotChange, SummaryRow, TradeRow};
+use brk_ref::{AccountRow, CashRow, HoldingRow, LastTrade, LotChange, SummaryRow, TradeRow};
 use brk_trade_rows::Change;
 use std::alloc::Global;
 use std::collections::VecDeque;
@@ -35,6 +36,7 @@ pub struct RowIndex {
     trades: TradeGroups,
     accounts: AgesByNumber,
     changes: AgesByNumber,
+    cash: AgesByNumber,
     prices: LastPrices,
 }
 
@@ -66,32 +68,55 @@ fn changes_of_rows(alloc: Global, rows: &[LotChange]) -> Result<AgesByNumber, In
     Ok(changes)
 }
 
+// Fails also if the account has the row.
+fn insert_cash_row(groups: &mut AgesByNumber, row: &CashRow) -> Result<(), IndexLost>
+    ensures { OnOk result ((account : ℕ) → InsertsAgeIf ((abstract_cash_row row.now).account == account)
+        (ages_of_number groups.old account) (age_of_cash_row (abstract_cash_row row.now)) (ages_of_number groups.new account)) }
+{
+    let age = RowAge::of_cash_row(row)?;
+    groups.insert(row.account.get(), age)
+}
+
+// Fails also if two cash rows of an account have one stamp and one number.
+fn cash_of_rows(alloc: Global, rows: &[CashRow]) -> Result<AgesByNumber, IndexLost>
+    ensures { IfOk result (λ cash. AreCashRowsOf cash (map abstract_cash_row rows.now)) }
+{
+    let mut cash = AgesByNumber::new(alloc);
+    for row in rows {
+        insert_cash_row(&mut cash, row)?;
+    }
+    Ok(cash)
+}
+
 impl RowIndex {
     pub fn new(alloc: Global) -> RowIndex
-        ensures { (t : Tables) → HasRowsOf t [] [] [] [] [] → IsIndexOf result t }
+        ensures { (t : Tables) → HasRowsOf t [] [] [] [] [] [] → IsIndexOf result t }
     {
         RowIndex {
             lots: LotGroups::new(alloc),
             trades: TradeGroups::new(alloc),
             accounts: AgesByNumber::new(alloc),
             changes: AgesByNumber::new(alloc),
+            cash: AgesByNumber::new(alloc),
             prices: LastPrices::new(alloc),
         }
     }
 
-    /// Creates the index of all rows of HOLDING, TRADE, CUSTOMER_ACCOUNT, HOLDING_HISTORY and
-    /// LAST_TRADE. Fails also if two rows of a table have one key.
+    /// Creates the index of all rows of HOLDING, TRADE, CUSTOMER_ACCOUNT, HOLDING_HISTORY, CASH_MOVE
+    /// and LAST_TRADE. Fails also if two rows of a table have one key, or if a cash row has a number
+    /// greater than any id.
     pub fn of_rows(
         alloc: Global,
         lots: &[HoldingRow],
         trades: &[TradeRow],
         accounts: &[AccountRow],
         changes: &[LotChange],
+        cash: &[CashRow],
         last_trades: &[LastTrade],
     ) -> Result<RowIndex, IndexLost>
         ensures { IfOk result (λ index. (t : Tables)
             → HasRowsOf t (map abstract_holding_row lots.now) (map abstract_trade_row trades.now) (map abstract_account_row accounts.now) (map abstract_lot_change_row changes.now)
-            (map abstract_last_trade_row last_trades.now)
+            (map abstract_cash_row cash.now) (map abstract_last_trade_row last_trades.now)
             → IsIndexOf index t) }
     {
         Ok(RowIndex {
@@ -99,6 +124,7 @@ impl RowIndex {
             trades: TradeGroups::of_rows(alloc, trades)?,
             accounts: accounts_of_rows(alloc, accounts)?,
             changes: changes_of_rows(alloc, changes)?,
+            cash: cash_of_rows(alloc, cash)?,
             prices: LastPrices::of_rows(alloc, last_trades)?,
         })
     }
@@ -126,6 +152,7 @@ impl RowIndex {
             Change::AddLotChange(change) => self
                 .changes
                 .insert(change.trade.get(), RowAge::of_id(change.lot)),
+            Change::AddMove(row) => insert_cash_row(&mut self.cash, row),
             Change::AddLastTrade(last) => self.prices.add(last),
             Change::SetLastTrade(last) => {
                 self.prices.set(last);
@@ -151,6 +178,14 @@ impl RowIndex {
         self.lots.len()
     }
 
+    pub fn number_of_trades(&self) -> usize {
+        self.trades.len()
+    }
+
+    pub fn allocator(&self) -> Global {
+        self.accounts.alloc
+    }
+
     /// Returns the market value of holdings at last prices, in cents; shares that were sold short
     /// count below 0. Returns `None` if a security has no last price, or if the value overflows.
     pub fn market_value(&self, rows: &[SummaryRow]) -> Option<Wide>
@@ -166,10 +201,12 @@ impl RowIndex {
     {
         match group {
             Group::Position(account, symbol) => self.lots.positions.ages(account.get(), symbol),
+            Group::LotsOfAccount(account) => self.lots.accounts.ages(account.get()),
             Group::TradesOfAccount(account) => self.trades.accounts.ages(account.get()),
             Group::TradesOfSymbol(symbol) => self.trades.ages_of_symbol(symbol),
             Group::SubmittedTrades => Some(&self.trades.submitted),
             Group::AccountsOfCustomer(customer) => self.accounts.ages(customer.get()),
+            Group::CashRowsOfAccount(account) => self.cash.ages(account.get()),
             Group::LotChangesOfTrade(trade) => self.changes.ages(trade.get()),
         }
     }

@@ -1,4 +1,4 @@
-//! The lots of each position.
+//! The lots of each position and of each account.
 
 ghost use Rattle.std.specs.Prelude.{◌≡◌, ◌==◌, ◌∷◌, IfOk, List, OnOk, [], filter, map, not};
 ghost use Rattle.std.specs.HashMap.{hash_map_len};
@@ -7,6 +7,7 @@ ghost use Rattle.brk_model.specs.Tables.{HoldingRow as Row};
 ghost use Rattle.brk_store_index.specs.Parts.{IsIndexOfLots};
 
 use crate::age::RowAge;
+use crate::by_number::AgesByNumber;
 use crate::by_position::AgesByPosition;
 use crate::lost::IndexLost;
 use brk_money::{Id, Stamp};
@@ -22,9 +23,10 @@ pub(crate) struct LotPlace {
     stamp: Stamp,
 }
 
-/// The lots of each position, and the place of each lot by its trade.
+/// The lots of each position and of each account, and the place of each lot by its trade.
 #[derive(Drop)]
 pub(crate) struct LotGroups {
+    pub(crate) accounts: AgesByNumber,
     pub(crate) positions: AgesByPosition,
     places: HashMap<u64, LotPlace>,
 }
@@ -34,6 +36,7 @@ impl LotGroups {
         ensures { IsIndexOfLots result [] }
     {
         LotGroups {
+            accounts: AgesByNumber::new(alloc),
             positions: AgesByPosition::new(alloc),
             places: HashMap::new(alloc),
         }
@@ -52,6 +55,8 @@ impl LotGroups {
             stamp: lot.stamp,
         };
         self.places.insert(lot.trade.get(), place)?;
+        self.accounts
+            .insert(lot.account.get(), RowAge::of_id(lot.trade))?;
         self.positions
             .insert(lot.account.get(), &lot.symbol, RowAge::of_lot(lot))?;
         Ok(())
@@ -63,6 +68,8 @@ impl LotGroups {
         let Some(place) = self.places.remove(&trade.get()) else {
             return Ok(());
         };
+        self.accounts
+            .remove(place.account.get(), &RowAge::of_id(trade))?;
         self.positions.remove(
             place.account.get(),
             &place.symbol,

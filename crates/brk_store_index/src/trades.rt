@@ -140,6 +140,10 @@ impl TradeGroups {
         Ok(trades)
     }
 
+    pub(crate) fn len(&self) -> usize {
+        self.places.len()
+    }
+
     pub(crate) fn ages_of_symbol(&self, symbol: &Symbol) -> Option<&VecDeque<RowAge>>
         ensures { ages_in (option_copied result) ≡ ages_of_position self.now.symbols 0 symbol.now }
     {

@@ -18,24 +18,26 @@ module _ {S : Type 0} (g : Ghosts S) (old mid : Held S) where
   decided v P R (Err fault) read none =
       record { answered = λ clean. tt; was_open = λ clean. tt; same_rows = read.same_rows; unchanged_if_open = read.unchanged_if_open; survives = read.survives }
 
--- an answer that follows from what five reads returned
-pub decided_by_five : {S V W X Y U Z E F G H J I : Type 0} (g : Ghosts S) (a b c d e f : Held S) (v : V) (w : W) (x : X) (y : Y) (u : U) (P : V → Tables → Type 0) (Q : W → Tables → Type 0) (R : X → Tables → Type 0)
-    (T : Y → Tables → Type 0) (K : U → Tables → Type 0) (M : Z → Tables → Type 0) (result : Result Z I) → ReadPost {E = E} g a b (Ok v) P → ReadPost {E = F} g b c (Ok w) Q → ReadPost {E = G} g c d (Ok x) R
-    → ReadPost {E = H} g d e (Ok y) T → ReadPost {E = J} g e f (Ok u) K → IfOk result (λ z. (t : Tables) → P v t → Q w t → R x t → T y t → K u t → M z t) → ReadPost g a f result M
-decided_by_five {S} {V} {W} {X} {Y} {U} {Z} {E} {F} {G} {H} {J} {I} g a b c d e f v w x y u P Q R T K M result one two three four five tell =
+-- an answer that follows from what six reads returned
+pub decided_by_six : {S V W X Y U L Z E F G H J K N : Type 0} (g : Ghosts S) (a b c d e f h : Held S) (v : V) (w : W) (x : X) (y : Y) (u : U) (l : L) (P : V → Tables → Type 0) (Q : W → Tables → Type 0) (R : X → Tables → Type 0)
+    (T : Y → Tables → Type 0) (C : U → Tables → Type 0) (D : L → Tables → Type 0) (M : Z → Tables → Type 0) (result : Result Z N) → ReadPost {E = E} g a b (Ok v) P → ReadPost {E = F} g b c (Ok w) Q → ReadPost {E = G} g c d (Ok x) R
+    → ReadPost {E = H} g d e (Ok y) T → ReadPost {E = J} g e f (Ok u) C → ReadPost {E = K} g f h (Ok l) D → IfOk result (λ z. (t : Tables) → P v t → Q w t → R x t → T y t → C u t → D l t → M z t) → ReadPost g a h result M
+decided_by_six {S} {V} {W} {X} {Y} {U} {L} {Z} {E} {F} {G} {H} {J} {K} {N} g a b c d e f h v w x y u l P Q R T C D M result one two three four five six tell =
     let PQ = λ (vw : V × W) (t : Tables). P vw.0 t × Q vw.1 t in
     let PQR = λ (vwx : (V × W) × X) (t : Tables). PQ vwx.0 t × R vwx.1 t in
     let PQRT = λ (vwxy : ((V × W) × X) × Y) (t : Tables). PQR vwxy.0 t × T vwxy.1 t in
-    let All = λ (all : (((V × W) × X) × Y) × U) (t : Tables). PQRT all.0 t × K all.1 t in
+    let PQRTC = λ (vwxyu : (((V × W) × X) × Y) × U) (t : Tables). PQRT vwxyu.0 t × C vwxyu.1 t in
+    let All = λ (all : ((((V × W) × X) × Y) × U) × L) (t : Tables). PQRTC all.0 t × D all.1 t in
     let second = read_with g a b c {H = F} v w (v, w) P Q PQ (λ t p q. (p, q)) one two in
     let third = read_with g a c d {H = G} (v, w) x ((v, w), x) PQ R PQR (λ t p q. (p, q)) second three in
     let fourth = read_with g a d e {H = H} ((v, w), x) y (((v, w), x), y) PQR T PQRT (λ t p q. (p, q)) third four in
-    let fifth = read_with g a e f {H = J} (((v, w), x), y) u ((((v, w), x), y), u) PQRT K All (λ t p q. (p, q)) fourth five in
-    decided g a f ((((v, w), x), y), u) All M result fifth (told result tell)
+    let fifth = read_with g a e f {H = J} (((v, w), x), y) u ((((v, w), x), y), u) PQRT C PQRTC (λ t p q. (p, q)) fourth five in
+    let sixth = read_with g a f h {H = K} ((((v, w), x), y), u) l (((((v, w), x), y), u), l) PQRTC D All (λ t p q. (p, q)) fifth six in
+    decided g a h (((((v, w), x), y), u), l) All M result sixth (told result tell)
   where
-    told : (r : Result Z I) → IfOk r (λ z. (t : Tables) → P v t → Q w t → R x t → T y t → K u t → M z t)
-        → IfOk r (λ z. (t : Tables) → (((P v t × Q w t) × R x t) × T y t) × K u t → M z t)
-    told (Ok z) h = λ t all. h t all.0.0.0.0 all.0.0.0.1 all.0.0.1 all.0.1 all.1
+    told : (r : Result Z N) → IfOk r (λ z. (t : Tables) → P v t → Q w t → R x t → T y t → C u t → D l t → M z t)
+        → IfOk r (λ z. (t : Tables) → ((((P v t × Q w t) × R x t) × T y t) × C u t) × D l t → M z t)
+    told (Ok z) h = λ t all. h t all.0.0.0.0.0 all.0.0.0.0.1 all.0.0.0.1 all.0.0.1 all.0.1 all.1
     told (Err i) h = tt
 
 module _ {S : Type 0} (g : Ghosts S) (old mid end : Held S) where

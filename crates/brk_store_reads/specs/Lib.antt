@@ -1,2 +1,3 @@
 pub mod ReadSequences
 pub mod RowsByAge
+pub mod RowsOfAccounts

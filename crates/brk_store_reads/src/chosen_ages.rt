@@ -1,11 +1,12 @@
-//! Some of the ages of a group of rows, by their places from an end.
+//! Some of the ages of a group of rows, by their places from an end, and the places of a span.
 
-ghost use Rattle.std.specs.Prelude.{◌≡◌, ◌+◌, ◌<◌, ◌^◌, IfOk, drop, take};
+ghost use Rattle.std.specs.Prelude.{◌≡◌, ◌+◌, ◌<◌, ◌^◌, IfOk, drop, false, take, true};
 ghost use Rattle.std.specs.Option.{option_copied};
-ghost use Rattle.brk_store_index.specs.Ages.{ages_in, in_order};
+ghost use Rattle.brk_store_index.specs.Ages.{IsPlaceOfStamp, ages_in, in_order};
 
+use brk_money::Stamp;
 use brk_store_index::RowAge;
-use brk_store_index::ages::age_in_order;
+use brk_store_index::ages::{age_in_order, place_of_stamp};
 use std::alloc::{AllocError, Global};
 use std::collections::VecDeque;
 
@@ -56,5 +57,23 @@ pub(crate) fn all_ages(
     match ages {
         Some(ages) => ages_from_end(alloc, ages, false, 0, ages.len()),
         None => Ok(Vec::new(alloc)),
+    }
+}
+
+// The places of the first age of the span and of the first after it.
+pub(crate) fn places_of_span(
+    ages: Option<&VecDeque<RowAge>>,
+    first: Stamp,
+    last: Stamp,
+) -> (usize, usize)
+    ensures first { IsPlaceOfStamp (ages_in (option_copied ages.entry)) first false result.0 }
+    ensures last { IsPlaceOfStamp (ages_in (option_copied ages.entry)) last true result.1 }
+{
+    match ages {
+        Some(ages) => (
+            place_of_stamp(ages, first, false),
+            place_of_stamp(ages, last, true),
+        ),
+        None => (0, 0),
     }
 }

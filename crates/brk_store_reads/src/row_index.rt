@@ -2,12 +2,12 @@
 
 ghost use Rattle.std.specs.Prelude.{◌≡◌, false, map};
 ghost use Rattle.brk_ref.specs.Records.{abstract_account_row, abstract_last_trade_row};
-ghost use Rattle.brk_ref.specs.Rows.{abstract_holding_row, abstract_lot_change_row, abstract_trade_row};
+ghost use Rattle.brk_ref.specs.Rows.{abstract_cash_row, abstract_holding_row, abstract_lot_change_row, abstract_trade_row};
 ghost use Rattle.brk_store_index.specs.Index.{IsIndexOf};
 ghost use Rattle.brk_store_transactions.specs.Holds.{ReadPost};
 
 use brk_money::CallFault;
-use brk_ref::{AccountRow, HoldingRow, LastTrade, LotChange, TradeRow};
+use brk_ref::{AccountRow, CashRow, HoldingRow, LastTrade, LotChange, TradeRow};
 use brk_store_index::RowIndex;
 use brk_store_transactions::begin_transaction;
 use sqlite::{Alter, Connection};
@@ -66,6 +66,19 @@ fn read_all_lot_changes<S: Alter>(
 }
 
 #[tactic(auto, using(brk_store_transactions::proofs::Ending::read_is_over))]
+fn read_all_cash_rows<S: Alter>(
+    conn: &mut Connection<S>,
+    alloc: Global,
+) -> Result<Vec<CashRow>, CallFault>
+    requires { conn.old.in_transaction ≡ false }
+    ensures mode { conn.new.in_transaction ≡ false }
+    ensures read { ReadPost S.Store conn.old conn.new result (λ all t. map abstract_cash_row all.items ≡ t.moves) }
+{
+    let mut tx = begin_transaction(conn);
+    brk_tables_cash::all_cash_rows(&mut tx, alloc)
+}
+
+#[tactic(auto, using(brk_store_transactions::proofs::Ending::read_is_over))]
 fn read_all_last_trades<S: Alter>(
     conn: &mut Connection<S>,
     alloc: Global,
@@ -79,7 +92,7 @@ fn read_all_last_trades<S: Alter>(
 }
 
 /// Returns the index of all rows of the tables that it is made of. Fails with `Memory` also if two
-/// rows of a table have one key.
+/// rows of a table have one key, or if a cash row has a number greater than any id.
 pub fn read_row_index<S: Alter>(
     conn: &mut Connection<S>,
     alloc: Global,
@@ -92,8 +105,17 @@ pub fn read_row_index<S: Alter>(
     let trades = read_all_trades(conn, alloc)?;
     let accounts = read_all_accounts(conn, alloc)?;
     let changes = read_all_lot_changes(conn, alloc)?;
+    let cash = read_all_cash_rows(conn, alloc)?;
     let last_trades = read_all_last_trades(conn, alloc)?;
-    match RowIndex::of_rows(alloc, &lots, &trades, &accounts, &changes, &last_trades) {
+    match RowIndex::of_rows(
+        alloc,
+        &lots,
+        &trades,
+        &accounts,
+        &changes,
+        &cash,
+        &last_trades,
+    ) {
         Ok(index) => Ok(index),
         Err(_) => Err(CallFault::Memory),
     }

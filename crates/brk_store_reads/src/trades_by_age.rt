@@ -5,7 +5,7 @@ ghost use Rattle.std.specs.Option.{option_copied};
 ghost use Rattle.brk_money.specs.Kinds.{is_same_trade_status};
 ghost use Rattle.brk_money.specs.declared.status.Status.TheVariants.{Submitted};
 ghost use Rattle.brk_ref.specs.Rows.{abstract_trade_row};
-ghost use Rattle.brk_store_index.specs.Ages.{IsPlaceOfStamp, ages_in};
+ghost use Rattle.brk_store_index.specs.Ages.{ages_in};
 ghost use Rattle.brk_store_index.specs.Index.{row_of_age, trade_of_age};
 ghost use Rattle.brk_store_reads.specs.RowsByAge.{AreFirstTwentyBetween, IsFirstAgeSince};
 ghost use Rattle.brk_store_transactions.specs.Holds.{ReadPost};
@@ -13,6 +13,7 @@ ghost use Rattle.brk_tables_schema.specs.Desk.{Trades};
 ghost use Rattle.brk_tables_schema.specs.Statements.{IsFirstMatch};
 
 use crate::by_age::{RowsByAge, read_chosen_rows};
+use crate::chosen_ages::places_of_span;
 use brk_money::{CallFault, Id, Stamp, Status, StoreFailed};
 use brk_ref::{Symbol, TradeRow};
 use brk_store_index::RowAge;
@@ -110,20 +111,6 @@ impl<S: Alter> RowsByAge<S, TradeRow> for SubmittedTrades {
             return Err(StoreFailed);
         }
         Ok(row)
-    }
-}
-
-// The places of the first age of the span and of the first after it.
-fn places_of_span(ages: Option<&VecDeque<RowAge>>, first: Stamp, last: Stamp) -> (usize, usize)
-    ensures first { IsPlaceOfStamp (ages_in (option_copied ages.entry)) first false result.0 }
-    ensures last { IsPlaceOfStamp (ages_in (option_copied ages.entry)) last true result.1 }
-{
-    match ages {
-        Some(ages) => (
-            place_of_stamp(ages, first, false),
-            place_of_stamp(ages, last, true),
-        ),
-        None => (0, 0),
     }
 }
 

@@ -18,8 +18,8 @@ pub mod making;
 pub mod upgrade;
 
 pub use brk_tables_cash::{
-    add_cash_row, cash_row_by_trade, cash_row_with_greatest_id, has_reached_movement_limit,
-    one_day_start, set_cash_row_name, set_one_day_start,
+    add_cash_row, all_cash_rows, cash_row_by_id, cash_row_by_trade, cash_row_with_greatest_id,
+    has_reached_movement_limit, one_day_start, set_cash_row_name, set_one_day_start,
 };
 pub use brk_tables_reference::{
     account_by_id, accounts_of_customer, add_account, add_band, add_broker, add_charge,

@@ -1,6 +1,7 @@
 pub mod CashByTrade
 pub mod AccountOfTrade
 pub mod Telling
+pub mod StableSorts
 pub mod InOrder
 pub mod Sorting
 pub mod Numbered
@@ -8,6 +9,8 @@ pub mod Turning
 pub mod CashPlaces
 pub mod AddMove
 pub mod LastMove
+pub mod MoveById
+pub mod MovesById
 pub mod MoveByTrade
 pub mod MovementBehind
 pub mod SetCashName

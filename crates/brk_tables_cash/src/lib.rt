@@ -14,7 +14,7 @@ pub mod rule;
 pub mod upgrade_statements;
 
 pub use moves::{
-    add_cash_row, cash_row_by_trade, cash_row_with_greatest_id, has_reached_movement_limit,
-    set_cash_row_name,
+    add_cash_row, all_cash_rows, cash_row_by_id, cash_row_by_trade, cash_row_with_greatest_id,
+    has_reached_movement_limit, set_cash_row_name,
 };
 pub use rule::{one_day_start, set_one_day_start};

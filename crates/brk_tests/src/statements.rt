@@ -6,10 +6,11 @@ use brk_money::{Fault, Id, Stamp};
 use brk_ref::CashRow;
 use brk_report::ReportFault;
 use brk_tests_desks::desks::{
-    Step, desk_with_reference_data, expect_batch_result, write_statement,
+    Step, desk_with_reference_data, expect_batch_result, run_batch_at_desk, write_statement,
 };
 use brk_tests_desks::faulty::Narrow;
 use brk_tests_desks::statements::{BOUGHT, WANTED, account_and_days};
+use brk_tests_desks::worked::{append_end_record, append_purchase};
 use brk_tests_desks::{expect, open_in_memory};
 use sqlite::{Alter, Connection};
 use std::alloc::Global;
@@ -78,6 +79,9 @@ fn expect_each_statement_write_fault<S: Alter + Drop>(
 pub fn a_failed_write_ends_the_statement(alloc: Global) -> Result<(), Fail> {
     expect_each_statement_write_fault(alloc, open_in_memory(alloc))
 }
+
+// The number of purchases of account 102, of so many that the rows of account 100 are read by the index.
+const OTHER_PURCHASES: u64 = 300;
 
 // Two purchases, a sale that closes the last lot first, a short sale on margin of another symbol,
 // and a deposit.
@@ -226,15 +230,36 @@ const CASH: [(i64, i64, u64, &str, Result<(), Ended>); 10] = [
     ),
 ];
 
-// Returns a desk in the database of a connection after the batch `SET` and `TRADES`. Fails without
-// a connection, if the desk cannot be set up (`desk_with_reference_data`), if the batch `TRADES`
-// fails or writes other lines, or if memory runs out.
+// Buys one share of ABC at 10.00 so many times for account 102, which it adds, with the trade ids from
+// 5 on. Fails if a row is not accepted, or if memory runs out.
+fn buy_for_another_account<S: Alter>(
+    alloc: Global,
+    desk: &mut Desk<S>,
+    purchases: u64,
+) -> Result<(), Fail> {
+    let mut batch = String::from_str(alloc, "batch,O\naccount,102,10,1,Side,1,10000.00\n")?;
+    for n in 0..purchases {
+        append_purchase(&mut batch, 102, 1, n.saturating_add(5))?;
+    }
+    append_end_record(&mut batch, purchases.saturating_mul(2).saturating_add(1))?;
+    match run_batch_at_desk(alloc, desk, batch.as_bytes()).1 {
+        Ok(counts) if counts.no == 0 => Ok(()),
+        _ => Err("the purchases of account 102")?,
+    }
+}
+
+// Returns a desk in the database of a connection after the batch `SET` and `TRADES`, and so many
+// purchases of account 102. Fails without a connection, if the desk cannot be set up
+// (`desk_with_reference_data`), if the batch `TRADES` fails or writes other lines, if a purchase is
+// not accepted, or if memory runs out.
 fn desk_with_trades<S: Alter + Drop>(
     alloc: Global,
     conn: Option<Connection<S>>,
+    purchases: u64,
 ) -> Result<Desk<S>, Fail> {
     let mut desk = desk_with_reference_data(alloc, conn)?;
     expect_batch_result(alloc, &mut desk, "trades", TRADES)?;
+    buy_for_another_account(alloc, &mut desk, purchases)?;
     Ok(desk)
 }
 
@@ -258,14 +283,15 @@ fn record_cash_rows<S: Alter>(
 }
 
 // Checks, for each walk of `CASH` over the cash rows of account 100 on a desk in the database of a
-// connection, that its rows and its result are the wanted ones. Fails if not, without a connection,
-// and if the desk cannot be set up (`desk_with_trades`).
+// connection with so many purchases of account 102, that its rows and its result are the wanted ones.
+// Fails if not, without a connection, and if the desk cannot be set up (`desk_with_trades`).
 fn expect_cash_row_walks<S: Alter + Drop>(
     alloc: Global,
     conn: Option<Connection<S>>,
+    purchases: u64,
 ) -> Result<(), Fail> {
     let account = Id::new(100).ok_or("an account")?;
-    let mut desk = desk_with_trades(alloc, conn)?;
+    let mut desk = desk_with_trades(alloc, conn, purchases)?;
     for (from, to, left, rows, wanted) in CASH {
         let mut seen = Seen {
             rows: String::new(alloc),
@@ -281,9 +307,11 @@ fn expect_cash_row_walks<S: Alter + Drop>(
 }
 
 /// Checks, for each walk of `CASH` over the cash rows of account 100, that it passes exactly the
-/// wanted rows, sorted by stamp, ascending, and that it has the wanted result.
+/// wanted rows, sorted by stamp, ascending, and that it has the wanted result: on a small desk by a
+/// scan, and on one with `OTHER_PURCHASES` more trades by the index.
 pub fn walks_cash_rows_in_order_of_stamps(alloc: Global) -> Result<(), Fail> {
-    expect_cash_row_walks(alloc, open_in_memory(alloc))
+    expect_cash_row_walks(alloc, open_in_memory(alloc), 0)?;
+    expect_cash_row_walks(alloc, open_in_memory(alloc), OTHER_PURCHASES)
 }
 
 // Walks over lots: the account, the number of lots that the walk may pass, the lots that it passes,
@@ -323,13 +351,14 @@ fn record_lots<S: Alter>(
 }
 
 // Checks, for each walk of `LOTS` over the lots of an account on a desk in the database of a
-// connection, that its lots and its result are the wanted ones. Fails if not, without a connection,
-// and if the desk cannot be set up (`desk_with_trades`).
+// connection with so many purchases of account 102, that its lots and its result are the wanted ones.
+// Fails if not, without a connection, and if the desk cannot be set up (`desk_with_trades`).
 fn expect_lot_walks<S: Alter + Drop>(
     alloc: Global,
     conn: Option<Connection<S>>,
+    purchases: u64,
 ) -> Result<(), Fail> {
-    let mut desk = desk_with_trades(alloc, conn)?;
+    let mut desk = desk_with_trades(alloc, conn, purchases)?;
     for (account, left, rows, wanted) in LOTS {
         let mut seen = Seen {
             rows: String::new(alloc),
@@ -345,7 +374,9 @@ fn expect_lot_walks<S: Alter + Drop>(
 }
 
 /// Checks, for each walk of `LOTS` over the lots of an account, that it passes exactly the wanted
-/// lots, sorted by symbol, then by opening stamp, ascending, and that it has the wanted result.
+/// lots, sorted by symbol, then by opening stamp, ascending, and that it has the wanted result: on a
+/// small desk by a scan, and on one with `OTHER_PURCHASES` more trades by the index.
 pub fn walks_lots_in_order_of_symbols(alloc: Global) -> Result<(), Fail> {
-    expect_lot_walks(alloc, open_in_memory(alloc))
+    expect_lot_walks(alloc, open_in_memory(alloc), 0)?;
+    expect_lot_walks(alloc, open_in_memory(alloc), OTHER_PURCHASES)
 }

@@ -1,6 +1,6 @@
 use Rattle.std.proofs.Common.{rules}
-use Rattle.brk_trade_rows.specs.declared.change.Change.TheVariants.{AddAccount, AddLastTrade, AddLot, AddLotChange, AddTrade, CompleteTrade, RemoveLot, SetStatus}
-use Rattle.brk_store_index.proofs.Changing.{account_added_if, kept, last_trade_added_if, last_trade_set, lot_added_if, lot_change_added_if, lot_removed_if, of_change, status_set_if, trade_added_if, trade_completed_if}
+use Rattle.brk_trade_rows.specs.declared.change.Change.TheVariants.{AddAccount, AddLastTrade, AddLot, AddLotChange, AddMove, AddTrade, CompleteTrade, RemoveLot, SetStatus}
+use Rattle.brk_store_index.proofs.Changing.{account_added_if, cash_row_added_if, kept, last_trade_added_if, last_trade_set, lot_added_if, lot_change_added_if, lot_removed_if, of_change, status_set_if, trade_added_if, trade_completed_if}
 use Rattle.brk_store_index.proofs.index.RowIndex.update_one.Goals as goal
 
 pub returns-in-AddLot : goal.returns-in-AddLot
@@ -38,6 +38,11 @@ returns-in-AddLotChange c =
     of_change c.insert-in-AddLotChange.result c.args.self.now (record c.args.self.now { changes = c.insert-in-AddLotChange.new.self }) c.args.change.now (AddLotChange c.in-AddLotChange.change) (search rules)
     (lot_change_added_if c.args.self.now c.insert-in-AddLotChange.new.self c.in-AddLotChange.change c.insert-in-AddLotChange.result (rw (c.get-in-AddLotChange.ensures.value, c.of_id-in-AddLotChange.ensures) at c.insert-in-AddLotChange.ensures))
 
+pub returns-in-AddMove : goal.returns-in-AddMove
+returns-in-AddMove c =
+    of_change c.insert_cash_row.result c.args.self.now (record c.args.self.now { cash = c.insert_cash_row.new.groups }) c.args.change.now (AddMove c.in-AddMove.row) (search rules)
+    (cash_row_added_if c.args.self.now c.insert_cash_row.new.groups c.in-AddMove.row c.insert_cash_row.result c.insert_cash_row.ensures)
+
 pub returns-in-AddLastTrade : goal.returns-in-AddLastTrade
 returns-in-AddLastTrade c =
     of_change c.add-in-AddLastTrade.result c.args.self.now (record c.args.self.now { prices = c.add-in-AddLastTrade.new.self }) c.args.change.now (AddLastTrade c.in-AddLastTrade.last) (search rules)
@@ -57,6 +62,7 @@ returns-in_default c t is =
       completed = search rules;
       account_added = search rules;
       lot_change_added = search rules;
+      cash_row_added = search rules;
       last_trade_added = search rules;
       last_trade_set = search rules;
     })

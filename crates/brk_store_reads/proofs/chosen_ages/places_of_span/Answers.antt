@@ -1,6 +1,6 @@
 use Rattle.std.proofs.Common.{false, true}
 use Rattle.brk_store_reads.proofs.ByAges.{place_in_none}
-use Rattle.brk_store_reads.proofs.trades_by_age.places_of_span.Goals as goal
+use Rattle.brk_store_reads.proofs.chosen_ages.places_of_span.Goals as goal
 
 pub returns-in-Some-clause-first : goal.returns-in-Some-clause-first
 returns-in-Some-clause-first c = rw c.in-Some.is c.place_of_stamp.ensures
