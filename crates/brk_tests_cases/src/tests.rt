@@ -3,8 +3,8 @@
 use brk_tests_replay::NamedTests;
 use std::test::Fail;
 
-/// The tests of `brk_tests_unit`, `brk_tests_interfaces`, `brk_tests`, `brk_tests_files` and
-/// `brk_tests_surface`.
+/// The tests of `brk_tests_unit`, `brk_tests_interfaces`, `brk_tests`, `brk_tests_files`,
+/// `brk_tests_surface` and `brk_tests_surface_rules`.
 #[derive(Clone, Copy)]
 pub struct AllTests;
 
@@ -26,9 +26,18 @@ fn run_test_over_desks(rt: &HostRuntime, name: &str) -> Option<Result<(), Fail>>
     }
 }
 
+// Runs the test `name` of the public items. Returns `None` if no such test has this name, and
+// otherwise the result of the test.
+fn run_test_of_surface(rt: &HostRuntime, name: &str) -> Option<Result<(), Fail>> {
+    match brk_tests_surface_rules::run_test(rt.alloc(), name) {
+        None => brk_tests_surface::run_test(rt, name),
+        tested => tested,
+    }
+}
+
 impl NamedTests for AllTests {
     fn run(&self, rt: &HostRuntime, name: &str) -> Option<Result<(), Fail>> {
-        match brk_tests_surface::run_test(rt, name) {
+        match run_test_of_surface(rt, name) {
             None => match run_test_without_database(rt, name) {
                 None => run_test_over_desks(rt, name),
                 tested => tested,

@@ -1,5 +1,4 @@
 use crate::store::{add_amount, add_shares, store_after_trades};
-use crate::view::format_records;
 use brk_desk::{
     Answer, Call, Command, Desk, Head, Key, Outcome, Query, View, line_text, parse_query,
     parse_row, row_text,
@@ -10,6 +9,7 @@ use brk_ref::{BatchName, CashRow, RowNumber};
 use brk_store::Store;
 use brk_tests_desks::worked::FIRST_MOMENT;
 use brk_tests_desks::{expect, open_in_memory};
+use brk_tests_surface_rules::view::format_records;
 use brk_tests_unit::expect::expect_text;
 use sqlite::{Alter, Connection};
 use std::alloc::Global;

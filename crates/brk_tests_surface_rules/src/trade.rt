@@ -1,5 +1,5 @@
 use crate::rows::count_rows_of_purchase;
-use brk_desk::line_text;
+use brk_desk_commands::line_text;
 use brk_lots::{LotSource, Position};
 use brk_money::{Cents, Day, Id, MoveId, Planned, Price, Qty, Stamp, Status, TradeType};
 use brk_ref::{

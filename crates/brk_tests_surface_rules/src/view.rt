@@ -12,7 +12,7 @@ use std::test::Fail;
 
 /// Returns the records of a view as lines, in which each field ends with a comma. Fails only if
 /// memory runs out.
-pub(crate) fn format_records(alloc: Global, view: &View) -> Result<String, Fail> {
+pub fn format_records(alloc: Global, view: &View) -> Result<String, Fail> {
     let records: Vec<Vec<String>> = view_fields(alloc, view)?;
     let mut told = String::new(alloc);
     for record in &records {
