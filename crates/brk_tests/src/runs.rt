@@ -17,7 +17,7 @@ use std::test::Fail;
 // Returns the text of an outcome: `ok,` and the stamp, in milliseconds since 1970-01-01 UTC, of a
 // command whose reply is only its stamp; `again,` and the stored reply; `no,` and the number of the
 // refusal of a command or a query; the number of trades in the view of submitted trades and the
-// word `trades`; and `something else` for any other outcome. Fails only if memory runs out.
+// word `trades`; `fault,` and the number of a fault; and `something else` for any other outcome. Fails only if memory runs out.
 fn format_outcome(alloc: Global, outcome: &Outcome) -> Result<String, AllocError> {
     match outcome {
         Outcome::Did(Answer::Done(Reply::Booked(stamp))) => {
@@ -27,6 +27,7 @@ fn format_outcome(alloc: Global, outcome: &Outcome) -> Result<String, AllocError
         Outcome::Did(Answer::Refused(refusal)) => format!(in alloc; "no,{refusal}"),
         Outcome::NoView(refusal) => format!(in alloc; "no,{refusal}"),
         Outcome::Saw(View::Submitted(trades)) => format!(in alloc; "{} trades", trades.len()),
+        Outcome::Failed(fault) => format!(in alloc; "fault,{}", fault.number()),
         _ => format!(in alloc; "something else"),
     }
 }

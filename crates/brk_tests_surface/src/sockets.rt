@@ -52,7 +52,7 @@ const PEERS: [(&str, Option<&str>); 6] = [
 /// Connects a peer to the listener, sends the bytes `input` and returns the stream of the peer. If
 /// `waits` is true, shuts down the writing side of the stream after the bytes. Fails if the address
 /// of the listener cannot be read, or if the peer cannot connect, send or shut down.
-pub(crate) fn connect_peer_and_send(
+fn connect_peer_and_send(
     rt: &HostRuntime,
     listener: &TcpListener,
     input: &str,
@@ -84,10 +84,7 @@ fn connect_all_peers_and_send(
 
 /// Checks that each peer in `waiting` receives exactly its wanted replies until the end of its
 /// stream. Fails if not, if a stream cannot be read or is not UTF-8, or if memory runs out.
-pub(crate) fn expect_peer_replies(
-    alloc: Global,
-    waiting: Vec<(TcpStream, &'static str)>,
-) -> Result<(), Fail> {
+fn expect_peer_replies(alloc: Global, waiting: Vec<(TcpStream, &'static str)>) -> Result<(), Fail> {
     for (peer, wanted) in waiting {
         let told = io::read_to_string(alloc, peer)?;
         expect(told.as_str() == wanted, format_args!("{wanted:?}"))?;

@@ -1,54 +1,13 @@
 use brk_lots::{Lot, LotSource};
 use brk_money::{Fault, Id, Stamp};
-use brk_ref::{CashRow, SummaryRow, Symbol, check_broker};
+use brk_ref::{CashRow, SummaryRow, Symbol};
 use brk_store::{LotPages, Store};
-use brk_tests_desks::desks::{desk_with_reference_data, expect_batch_result, expect_connection};
+use brk_tests_desks::desks::{desk_with_reference_data, expect_batch_result};
 use brk_tests_desks::statements::BOUGHT;
 use brk_tests_desks::{expect, open_in_memory};
-use brk_trade::{BrokerTotals, Change};
 use sqlite::{Alter, Connection};
 use std::alloc::Global;
 use std::test::Fail;
-
-fn created_store<S: Alter + Drop>(conn: Option<Connection<S>>) -> Result<Store<S>, Fail> {
-    match Store::create(expect_connection(conn)?) {
-        Ok(store) => Ok(store),
-        Err(_) => Err("no store")?,
-    }
-}
-
-fn adopted_store<S: Alter + Drop>(alloc: Global, conn: Connection<S>) -> Result<Store<S>, Fail> {
-    match Store::adopt(alloc, conn) {
-        Ok(store) => Ok(store),
-        Err(_) => Err("a store that is not adopted")?,
-    }
-}
-
-fn apply_new_broker<S: Alter>(alloc: Global, store: &mut Store<S>) -> Result<(), Fail> {
-    let broker = check_broker(alloc, &[b"2", b"Cy"])??;
-    Ok(store.apply(&[Change::AddBroker(broker)])?)
-}
-
-// The number of completed trades, and their commissions in cents.
-fn numbers_of_broker<S: Alter>(store: &mut Store<S>, broker: u64) -> Result<(u64, u64), Fail> {
-    let broker = Id::new(broker).ok_or("broker")?;
-    let numbers: BrokerTotals = store.broker_numbers(broker)?.ok_or("no broker")?;
-    Ok((numbers.trades.get(), numbers.commissions.get()))
-}
-
-fn expect_store_with_new_broker<S: Alter + Drop>(
-    alloc: Global,
-    conn: Option<Connection<S>>,
-) -> Result<(), Fail> {
-    let mut store = created_store(conn)?;
-    apply_new_broker(alloc, &mut store)?;
-    store.audit(alloc)?;
-    let mut store = adopted_store(alloc, store.into_conn())?;
-    expect(
-        numbers_of_broker(&mut store, 2)? == (0, 0),
-        "other numbers of a broker",
-    )
-}
 
 // In cents.
 fn balance_of_account<S: Alter>(store: &mut Store<S>) -> Result<i64, Fail> {
@@ -61,11 +20,6 @@ fn summary_of_position<S: Alter>(alloc: Global, store: &mut Store<S>) -> Result<
     let symbol = Symbol::parse(alloc, b"ABC")?.ok_or("symbol")?;
     let summary: SummaryRow = store.summary_of(account, &symbol)?.ok_or("no summary")?;
     Ok(summary.qty)
-}
-
-fn number_of_summaries<S: Alter>(alloc: Global, store: &mut Store<S>) -> Result<usize, Fail> {
-    let account = Id::new(100).ok_or("account")?;
-    Ok(store.summaries_of(alloc, account)?.len())
 }
 
 fn next_lot<L: LotSource>(source: &mut L) -> Result<Lot, Fail> {
@@ -84,14 +38,14 @@ fn first_lot_and_rows_read<S: Alter>(
     Ok((lot.trade.get(), pages.rows_read()))
 }
 
-/// Adds the amount of a cash row, in cents, to `sum`. Never fails.
-pub(crate) fn add_amount(sum: &mut i64, row: &CashRow) -> Result<(), Fault> {
+// In cents. Never fails.
+fn add_amount(sum: &mut i64, row: &CashRow) -> Result<(), Fault> {
     *sum = sum.saturating_add(row.amount.get());
     Ok(())
 }
 
-/// Adds the shares of a lot to `sum` if its symbol is ABC. Never fails.
-pub(crate) fn add_shares(sum: &mut i64, symbol: &str, lot: &Lot) -> Result<(), Fault> {
+// Adds the shares of a lot of ABC. Never fails.
+fn add_shares(sum: &mut i64, symbol: &str, lot: &Lot) -> Result<(), Fault> {
     if symbol == "ABC" {
         *sum = sum.saturating_add(lot.qty);
     }
@@ -124,15 +78,8 @@ fn expect_walked_sums<S: Alter>(store: &mut Store<S>) -> Result<(), Fail> {
 }
 
 fn expect_numbers_after_trades<S: Alter>(alloc: Global, store: &mut Store<S>) -> Result<(), Fail> {
-    expect(
-        numbers_of_broker(store, 1)? == (3, 5_360),
-        "other numbers of a broker",
-    )?;
     expect(balance_of_account(store)? == 840_340, "another balance")?;
-    expect(
-        summary_of_position(alloc, store)? == 150 && number_of_summaries(alloc, store)? == 1,
-        "another summary",
-    )?;
+    expect(summary_of_position(alloc, store)? == 150, "another summary")?;
     expect(
         first_lot_and_rows_read(alloc, store)? == (2, 1),
         "another lot",
@@ -142,7 +89,7 @@ fn expect_numbers_after_trades<S: Alter>(alloc: Global, store: &mut Store<S>) ->
 
 /// Returns the store of a desk in the database of a connection after two purchases and a sale.
 /// Fails without a connection, if the desk cannot be set up, and if memory runs out.
-pub fn store_after_trades<S: Alter + Drop>(
+pub(crate) fn store_after_trades<S: Alter + Drop>(
     alloc: Global,
     conn: Option<Connection<S>>,
 ) -> Result<Store<S>, Fail> {
@@ -151,11 +98,9 @@ pub fn store_after_trades<S: Alter + Drop>(
     Ok(desk.into_store())
 }
 
-/// Checks the public names of brk_store: the creation, the adoption and the audit of a store, a
-/// change of its rows, its reads, its pages of lots and its walks. Fails if an answer differs, and
-/// if memory runs out.
+/// Checks public names of brk_store: reads of an account and a position, pages of lots, and walks.
+/// Fails if an answer differs, and if memory runs out.
 pub fn surface_of_brk_store(alloc: Global) -> Result<(), Fail> {
-    expect_store_with_new_broker(alloc, open_in_memory(alloc))?;
     let mut store = store_after_trades(alloc, open_in_memory(alloc))?;
     expect_numbers_after_trades(alloc, &mut store)
 }
