@@ -1,11 +1,10 @@
-//! Tests of the public items of the crates that need no database (brk_tests_surface has those of the
-//! others). Each item is imported under its path, each function is called once with a known answer,
-//! and each type is constructed or matched, so a name that changes fails to compile. The command
-//! `test` of a transcript runs one of them.
+//! Tests of those public items of the crates without a database that no other crate of tests uses
+//! (brk_tests_surface has those of the other crates). Each item is imported under its path, each
+//! function is called once with a known answer, and each type is constructed or matched, so a name
+//! that changes fails to compile. The command `test` of a transcript runs one of them.
 #![tactic(auto)]
 
 mod audit;
-mod lots;
 mod money;
 mod reference;
 mod rows;
@@ -19,9 +18,8 @@ use std::test::Fail;
 /// name, and otherwise the result of the test.
 pub fn run_test(alloc: Global, name: &str) -> Option<Result<(), Fail>> {
     let tested = match name {
-        "surface_of_brk_money" => money::surface_of_brk_money(alloc),
+        "surface_of_brk_money" => money::surface_of_brk_money(),
         "surface_of_brk_ref" => reference::surface_of_brk_ref(alloc),
-        "surface_of_brk_lots" => lots::surface_of_brk_lots(alloc),
         "surface_of_brk_trade" => trade::surface_of_brk_trade(alloc),
         "surface_of_brk_view" => view::surface_of_brk_view(alloc),
         "surface_of_brk_audit" => audit::surface_of_brk_audit(alloc),

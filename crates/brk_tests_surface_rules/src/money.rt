@@ -1,41 +1,6 @@
-use brk_money::{
-    Cents, Condition, Day, Fault, Limit, Price, Qty, Rate, Refusal, Side, Stamp, Status, TaxRate,
-    TradeType, Wide, commission, day_of, half_up, parse_cents, parse_day, stamp_after, tax,
-    write_cents, write_day,
-};
+use brk_money::{Condition, Fault, Limit, Refusal, Side, Status, TradeType};
 use brk_tests_unit::expect::{expect_equal, expect_text};
-use std::alloc::Global;
 use std::test::Fail;
-
-// The commission is that of one share at 0.50 and 1 percent, the tax that on a gain of 340.00 at 20
-// percent.
-fn expect_rounded_amounts() -> Result<(), Fail> {
-    let rate = Rate::new(100).ok_or("rate")?;
-    let qty = Qty::new(1).ok_or("quantity")?;
-    let price = Price::new(50).ok_or("price")?;
-    let rates = TaxRate::new(20_000).ok_or("tax rate")?;
-    let gain = Cents::new(34_000).ok_or("gain")?;
-    expect_equal(half_up(5, 10), 1)?;
-    expect_equal(commission(rate, qty, price).get(), 1)?;
-    expect_equal(tax(gain, rates).get(), 6_800)
-}
-
-// The first stamp is 2024-03-01 00:00 UTC.
-fn expect_stamps_and_texts(alloc: Global) -> Result<(), Fail> {
-    let first = Stamp::new(1_709_251_200_000).ok_or("stamp")?;
-    let day = Day::new(19_783).ok_or("day")?;
-    let mut out = Vec::new(alloc);
-    expect_equal(
-        stamp_after(Some(first), first),
-        Stamp::new(1_709_251_200_001),
-    )?;
-    expect_equal(day_of(first), day)?;
-    expect_equal(parse_day(b"2024-03-01"), Some(day))?;
-    expect_equal(parse_cents(b"-1025.10"), Cents::new(-102_510))?;
-    write_day(&mut out, day)?;
-    write_cents(&mut out, Wide::new(-102_510))?;
-    expect_equal(out.as_slice(), b"2024-03-01-1025.10".as_slice())
-}
 
 // The types of trades, each with its name, its side, and whether it is an order at the market.
 const TYPES: [(TradeType, &str, Side, bool); 5] = [
@@ -149,11 +114,9 @@ fn expect_refusals_and_limits() -> Result<(), Fail> {
     Ok(())
 }
 
-/// Checks the public names of brk_money: amounts, rates, stamps and days, types and statuses of
-/// trades, conditions, faults and refusals. Fails if an answer differs, and if memory runs out.
-pub fn surface_of_brk_money(alloc: Global) -> Result<(), Fail> {
-    expect_rounded_amounts()?;
-    expect_stamps_and_texts(alloc)?;
+/// Checks public names of brk_money: types and statuses of trades, conditions, faults and refusals.
+/// Fails if an answer differs, and if memory runs out.
+pub fn surface_of_brk_money() -> Result<(), Fail> {
     expect_types_and_statuses()?;
     expect_conditions_and_faults()?;
     expect_refusals_and_limits()

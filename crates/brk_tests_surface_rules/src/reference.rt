@@ -32,14 +32,20 @@ const LARGE_TAX: [&[u8]; 3] = [b"2", b"Fed", b"80001"];
 
 const CUSTOMER_TAX: [&[u8]; 2] = [b"10", b"1"];
 
-fn expect_people(alloc: Global) -> Result<(), Fail> {
+fn expect_broker(alloc: Global) -> Result<(), Fail> {
     let checked: Planned<Broker> = check_broker(alloc, &BROKER);
     let Broker { id, name } = checked??;
     expect_equal(id.get(), 1)?;
-    expect_text(name.as_str(), "Bo")?;
+    expect_text(name.as_str(), "Bo")
+}
+
+fn expect_customer(alloc: Global) -> Result<(), Fail> {
     let customer: Customer = check_customer(alloc, &CUSTOMER)??;
     expect_equal((customer.id.get(), customer.tier.get()), (10, 1))?;
-    expect_text(customer.last_name.as_str(), "Lee")?;
+    expect_text(customer.last_name.as_str(), "Lee")
+}
+
+fn expect_account(alloc: Global) -> Result<(), Fail> {
     let account: Account = check_account(alloc, &ACCOUNT)??;
     expect_equal(
         (account.customer.get(), account.opening.get()),
@@ -47,30 +53,47 @@ fn expect_people(alloc: Global) -> Result<(), Fail> {
     )
 }
 
-fn expect_markets(alloc: Global) -> Result<(), Fail> {
+fn expect_security(alloc: Global) -> Result<(), Fail> {
     let Listing { security, price } = check_security(alloc, &SECURITY)??;
     let Security { symbol, sector, .. } = security;
-    expect_text(symbol.as_str(), "ABC")?;
-    expect_text(sector.as_str(), "Tech")?;
     expect_equal(price.get(), 1_000)?;
+    expect_text(symbol.as_str(), "ABC")?;
+    expect_text(sector.as_str(), "Tech")
+}
+
+fn expect_charge() -> Result<(), Fail> {
     let charge: Charge = check_charge(&CHARGE)?;
-    expect_equal(charge.amount.get(), 500)?;
+    expect_equal(charge.amount.get(), 500)
+}
+
+fn expect_customer_tax() -> Result<(), Fail> {
     let CustomerTax { customer, tax } = check_customer_tax(&CUSTOMER_TAX)?;
     expect_equal((customer.get(), tax.get()), (10, 1))
 }
 
-// The sum of 20 percent and 80.001 percent is above the greatest rate.
-fn expect_rates(alloc: Global) -> Result<(), Fail> {
+fn expect_bands(alloc: Global) -> Result<(), Fail> {
+    let qty = Qty::new(100).ok_or("quantity")?;
     let band: Band = check_band(alloc, &BAND)??;
     let last = check_band(alloc, &LAST_BAND)??;
-    let qty = Qty::new(100).ok_or("quantity")?;
     let bands = [band];
     expect_equal(band_for(&bands, qty), Rate::new(100))?;
-    expect_equal(overlaps(&bands, &last), true)?;
-    let state: Tax = check_tax(alloc, &TAX)??;
-    expect_equal(tax_sum(&[state]), TaxRate::new(20_000))?;
-    let taxes = [check_tax(alloc, &TAX)??, check_tax(alloc, &LARGE_TAX)??];
-    expect_equal(tax_sum(&taxes), None)
+    expect_equal(overlaps(&bands, &last), true)
+}
+
+fn expect_tax_sum(
+    alloc: Global,
+    first: &[&[u8]],
+    second: &[&[u8]],
+    wanted: Option<TaxRate>,
+) -> Result<(), Fail> {
+    let taxes: [Tax; 2] = [check_tax(alloc, first)??, check_tax(alloc, second)??];
+    expect_equal(tax_sum(&taxes), wanted)
+}
+
+// The sum of 20 percent and 80.001 percent is above the greatest rate.
+fn expect_tax_sums(alloc: Global) -> Result<(), Fail> {
+    expect_tax_sum(alloc, &TAX, &TAX, TaxRate::new(40_000))?;
+    expect_tax_sum(alloc, &TAX, &LARGE_TAX, None)
 }
 
 fn permission_with_tax_id(alloc: Global, tax_id: &[u8]) -> Result<Permission, Fail> {
@@ -92,34 +115,39 @@ fn executor_with_tax_id(alloc: Global, tax_id: &[u8]) -> Result<Executor, Fail> 
     })
 }
 
-// A customer needs no permission; an executor with another tax id needs one.
-fn expect_permitted_executors(alloc: Global) -> Result<(), Fail> {
+fn is_permitted(alloc: Global, tax_id: &[u8], permissions: &[Permission]) -> Result<bool, Fail> {
     let customer = check_customer(alloc, &CUSTOMER)??;
-    let own = executor_with_tax_id(alloc, b"T10")?;
-    let other = executor_with_tax_id(alloc, b"T11")?;
-    let permissions = [permission_with_tax_id(alloc, b"T11")?];
-    expect_equal(permitted(&customer, &[], &own), true)?;
-    expect_equal(permitted(&customer, &[], &other), false)?;
-    expect_equal(permitted(&customer, &permissions, &other), true)
+    let executor = executor_with_tax_id(alloc, tax_id)?;
+    Ok(permitted(&customer, permissions, &executor))
 }
 
-fn expect_kept_reply(alloc: Global) -> Result<(), Fail> {
-    let batch = BatchName::parse(alloc, b"A")?.ok_or("batch name")?;
+// A customer needs no permission; an executor with another tax id needs one.
+fn expect_permitted_executors(alloc: Global) -> Result<(), Fail> {
+    expect_equal(is_permitted(alloc, b"T10", &[])?, true)?;
+    expect_equal(is_permitted(alloc, b"T11", &[])?, false)?;
+    let permissions = [permission_with_tax_id(alloc, b"T11")?];
+    expect_equal(is_permitted(alloc, b"T11", &permissions)?, true)
+}
+
+fn kept_reply(alloc: Global) -> Result<Kept, Fail> {
     let n = RowNumber::new(1).ok_or("number of a row")?;
-    let kept = Kept {
-        key: Key { batch, n },
-        row_text: String::from_str(alloc, "broker\x1f1\x1fBo")?,
-        line: String::from_str(alloc, "1709251200000")?,
-    };
-    let Kept {
+    let batch = BatchName::parse(alloc, b"A")?.ok_or("batch name")?;
+    let row_text = String::from_str(alloc, "broker\x1f1\x1fBo")?;
+    let line = String::from_str(alloc, "1709251200000")?;
+    Ok(Kept {
         key: Key { batch, n },
         row_text,
         line,
-    } = kept;
+    })
+}
+
+fn expect_kept_reply(alloc: Global) -> Result<(), Fail> {
+    let kept = kept_reply(alloc)?;
+    let Key { batch, n } = &kept.key;
     expect_text(batch.as_str(), "A")?;
     expect_equal(n.get(), 1)?;
-    expect_text(row_text.as_str(), "broker\x1f1\x1fBo")?;
-    expect_text(line.as_str(), "1709251200000")
+    expect_text(kept.row_text.as_str(), "broker\x1f1\x1fBo")?;
+    expect_text(kept.line.as_str(), "1709251200000")
 }
 
 fn old_cash_row(alloc: Global) -> Result<OldCashRow, Fail> {
@@ -147,13 +175,18 @@ fn expect_old_cash_row(alloc: Global) -> Result<(), Fail> {
     expect_text(name.as_str(), "Market-Buy 100 shares of Acme")
 }
 
-/// Checks the public names of brk_ref: the records and the parsers of their fields, which executor
-/// is permitted, the rate of a quantity, bands that overlap, and the sum of tax rates. Fails if an
+/// Checks public names of brk_ref: the records and the parsers of their fields, which executor is
+/// permitted, the rate of a quantity, bands that overlap, and the sum of tax rates. Fails if an
 /// answer differs, and if memory runs out.
 pub fn surface_of_brk_ref(alloc: Global) -> Result<(), Fail> {
-    expect_people(alloc)?;
-    expect_markets(alloc)?;
-    expect_rates(alloc)?;
+    expect_broker(alloc)?;
+    expect_customer(alloc)?;
+    expect_account(alloc)?;
+    expect_security(alloc)?;
+    expect_charge()?;
+    expect_customer_tax()?;
+    expect_bands(alloc)?;
+    expect_tax_sums(alloc)?;
     expect_permitted_executors(alloc)?;
     expect_kept_reply(alloc)?;
     expect_old_cash_row(alloc)

@@ -1,23 +1,21 @@
 use crate::rows::count_rows_of_purchase;
 use brk_desk_commands::line_text;
 use brk_lots::{LotSource, Position};
-use brk_money::{Cents, Day, Id, MoveId, Planned, Price, Qty, Stamp, Status, TradeType};
+use brk_money::{Id, Planned, Price, Qty, Stamp, Status, TradeType};
 use brk_ref::{
-    AccountRow, BrokerRow, LastTrade, MovedAmount, RequestRow, SummaryRow, Symbol, Volume,
-    check_broker,
+    AccountRow, BrokerRow, LastTrade, RequestRow, SummaryRow, Symbol, Volume, check_broker,
 };
 use brk_ref_orders::{
-    Direction, Feed, Movement, Order, Update, parse_executor_update, parse_market_feed,
-    parse_trade_order,
+    Feed, Order, Update, parse_executor_update, parse_market_feed, parse_trade_order,
 };
 use brk_tests_unit::expect::{expect, expect_equal, expect_text};
 use brk_tests_unit::planned_reply::expect_planned_reply;
 use brk_tests_unit::plans::{PURCHASE, purchase_facts};
 use brk_tests_unit::result_plans::{SUBMITTED_CASH_PURCHASE, result_facts, trade_row_of_case};
 use brk_trade::{
-    Change, MovementPlanFacts, OrderPlanFacts, Plan, Quote, Reference, ReferenceFacts, Reply,
-    ResultPlanFacts, TextUpdate, plan_cancel, plan_estimate, plan_feed, plan_move, plan_oneday,
-    plan_order, plan_reference, plan_result, plan_update,
+    Change, OrderPlanFacts, Plan, Quote, Reference, ReferenceFacts, Reply, ResultPlanFacts,
+    TextUpdate, plan_cancel, plan_estimate, plan_feed, plan_order, plan_reference, plan_result,
+    plan_update,
 };
 use std::alloc::Global;
 use std::test::Fail;
@@ -129,42 +127,6 @@ fn expect_update_plan(alloc: Global) -> Result<(), Fail> {
         stamp_at(0),
     );
     expect_planned_reply(alloc, planned, "1709251200022,1")
-}
-
-fn deposit() -> Result<Movement, Fail> {
-    Ok(Movement {
-        direction: Direction::Deposit,
-        account: Id::new(100).ok_or("account")?,
-        amount: MovedAmount::new(10_000).ok_or("amount")?,
-    })
-}
-
-fn facts_of_deposit() -> Result<MovementPlanFacts, Fail> {
-    Ok(MovementPlanFacts {
-        balance: Cents::new(840_340),
-        has_all_movements: false,
-        next: MoveId::new(4).ok_or("number")?,
-    })
-}
-
-fn expect_move_plan(alloc: Global) -> Result<(), Fail> {
-    let movement: Movement = deposit()?;
-    let found: MovementPlanFacts = facts_of_deposit()?;
-    let planned: Planned<Plan> = plan_move(
-        alloc,
-        &movement,
-        &found,
-        Some(stamp_at(21)),
-        stamp_at(0),
-    );
-    expect_planned_reply(alloc, planned, "1709251200022,4,8503.40")
-}
-
-fn expect_oneday_plan(alloc: Global) -> Result<(), Fail> {
-    let day: Day = Day::new(19_784).ok_or("day")?;
-    let set: Option<Day> = None;
-    let planned: Planned<Plan> = plan_oneday(alloc, day, set, Some(stamp_at(15)), stamp_at(0));
-    expect_planned_reply(alloc, planned, "1709251200016")
 }
 
 // The next three call the plans that read lots, of any source of lots.
@@ -281,9 +243,7 @@ fn expect_plans_without_lots(alloc: Global) -> Result<(), Fail> {
     expect_reference_plan(alloc)?;
     expect_feed_plan(alloc)?;
     expect_cancel_plan(alloc)?;
-    expect_update_plan(alloc)?;
-    expect_move_plan(alloc)?;
-    expect_oneday_plan(alloc)
+    expect_update_plan(alloc)
 }
 
 /// Checks the public names of brk_trade: the plans, with their row changes and replies. Fails if an

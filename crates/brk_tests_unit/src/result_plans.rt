@@ -1,13 +1,15 @@
 use crate::expect::expect;
 use crate::planned_reply::expect_planned_reply;
 use brk_lots::Position;
-use brk_money::{Cents, Fault, Id, MoveId, Price, Qty, Rate, Stamp, Status, TaxRate, TradeType};
+use brk_money::{
+    Cents, Fault, Id, MoveId, Planned, Price, Qty, Rate, Stamp, Status, TaxRate, TradeType,
+};
 use brk_ref::{
     AccountRow, BrokerRow, ChargeAmount, Listing, Symbol, Tier, check_account, check_broker,
     check_security,
 };
 use brk_trade::{
-    Amount, Posting, ResultPlanFacts, SummaryRow, TradeParties, TradeRow, TradedSecurity,
+    Amount, Plan, Posting, ResultPlanFacts, SummaryRow, TradeParties, TradeRow, TradedSecurity,
     plan_result,
 };
 use std::alloc::Global;
@@ -45,17 +47,23 @@ pub const SUBMITTED_CASH_PURCHASE: Case = Case {
     last: 1_709_251_200_016,
 };
 
+// The bid, the charge, the commission and the tax of the trade of each case.
+fn amounts_of_trade() -> Result<(Price, ChargeAmount, Amount, Amount), Fail> {
+    let bid = Price::new(1_000).ok_or("bid")?;
+    let charge = ChargeAmount::new(500).ok_or("charge")?;
+    let commission = Amount::new(1_000).ok_or("commission")?;
+    let tax = Amount::new(0).ok_or("tax")?;
+    Ok((bid, charge, commission, tax))
+}
+
 /// Returns the TRADE row of the trade of a case, with the id 1, the account 100, a bid of 10.00, a
 /// charge of 5.00, a commission of 10.00, a tax of 0 and no price, which closes the oldest lots
 /// first. Fails if the quantity is not within its limits, and if memory runs out.
 pub fn trade_row_of_case(alloc: Global, case: &Case) -> Result<TradeRow, Fail> {
     let id = Id::new(1).ok_or("trade")?;
     let qty = Qty::new(case.qty).ok_or("quantity")?;
-    let bid = Price::new(1_000).ok_or("bid")?;
     let account = Id::new(100).ok_or("account")?;
-    let charge = ChargeAmount::new(500).ok_or("charge")?;
-    let commission = Amount::new(1_000).ok_or("commission")?;
-    let tax = Amount::new(0).ok_or("tax")?;
+    let (bid, charge, commission, tax) = amounts_of_trade()?;
     let symbol = Symbol::parse(alloc, b"ABC")?.ok_or("symbol")?;
     let executor = String::from_str(alloc, "Ann Lee")?;
     Ok(TradeRow {
@@ -81,10 +89,9 @@ pub fn trade_row_of_case(alloc: Global, case: &Case) -> Result<TradeRow, Fail> {
 // case. Fails if the balance is not within its limits, and if memory runs out.
 fn account_of_case(alloc: Global, case: &Case) -> Result<AccountRow, Fail> {
     let fields: [&[u8]; 6] = [b"100", b"10", b"1", b"Acc", b"1", b"10000.00"];
-    Ok(AccountRow {
-        account: check_account(alloc, &fields)??,
-        balance: Cents::new(case.balance).ok_or("balance")?,
-    })
+    let balance = Cents::new(case.balance).ok_or("balance")?;
+    let account = check_account(alloc, &fields)??;
+    Ok(AccountRow { account, balance })
 }
 
 // Returns the row of broker 1 before the result of a case. Fails only if memory runs out.
@@ -99,11 +106,15 @@ fn broker_of_case(alloc: Global, case: &Case) -> Result<BrokerRow, Fail> {
 // Returns the account and the broker of a case, with a customer of tier 1 whose tax rates are 20
 // percent in all. Fails if a number is not within its limits, and if memory runs out.
 fn parties_of_case(alloc: Global, case: &Case) -> Result<TradeParties, Fail> {
+    let tier = Tier::new(1).ok_or("tier")?;
+    let rates = TaxRate::new(20_000).ok_or("rates")?;
+    let account = account_of_case(alloc, case)?;
+    let broker = broker_of_case(alloc, case)?;
     Ok(TradeParties {
-        account: account_of_case(alloc, case)?,
-        broker: broker_of_case(alloc, case)?,
-        tier: Tier::new(1).ok_or("tier")?,
-        rates: TaxRate::new(20_000).ok_or("rates")?,
+        account,
+        broker,
+        tier,
+        rates,
     })
 }
 
@@ -147,27 +158,30 @@ pub fn result_facts(alloc: Global, case: &Case) -> Result<ResultPlanFacts, Fail>
     })
 }
 
-// Checks that the reply to a result at 10.10 with the facts `found`, on a position without lots, at
-// the clock reading 1709251200000 and after the last stamp `last`, if any, or `no,` and the refusal
-// of the result, is the text `wanted`. If `found` is `None`, the trade does not exist. Fails with
-// both texts if not. Fails also if the position does not accept the trade, and if memory runs out.
+// Returns what is planned for a result at 10.10 with the facts `found`, on a position without lots,
+// at the clock reading 1709251200000 and after the last stamp `last`, if any. If `found` is `None`,
+// the trade does not exist. Fails only if memory runs out.
+fn plan_of_result(
+    alloc: Global,
+    found: Option<&ResultPlanFacts>,
+    last: Option<Stamp>,
+) -> Result<Planned<Plan>, Fail> {
+    let price = Price::new(1_010).ok_or("price")?;
+    let position = Position::new(alloc);
+    let mut end = position.from_end(false);
+    let now = Stamp::nearest(1_709_251_200_000);
+    Ok(plan_result(alloc, found, price, &mut end, last, now))
+}
+
+// Checks that the reply to a result (`plan_of_result`), or `no,` and the refusal of the result, is
+// the text `wanted`. Fails with both texts if not, and if memory runs out.
 fn expect_result_reply(
     alloc: Global,
     found: Option<&ResultPlanFacts>,
     last: Option<Stamp>,
     wanted: &str,
 ) -> Result<(), Fail> {
-    let price = Price::new(1_010).ok_or("price")?;
-    let position = Position::from_lots(Vec::new(alloc)).ok_or("lots")?;
-    let now = Stamp::nearest(1_709_251_200_000);
-    if let Some(found) = found {
-        expect(
-            position.accepts_trade(found.trade.id, now),
-            "the position does not accept the trade",
-        )?;
-    }
-    let mut end = position.from_end(false);
-    let planned = plan_result(alloc, found, price, &mut end, last, now);
+    let planned = plan_of_result(alloc, found, last)?;
     expect_planned_reply(alloc, planned, wanted)
 }
 
@@ -321,11 +335,7 @@ const IMPOSSIBLE_TRADE_COUNTS: [i64; 4] = [i64::MIN, -1, GREATEST_TRADE_COUNT + 
 // out.
 fn expect_store_fault(alloc: Global, case: &Case) -> Result<(), Fail> {
     let found = result_facts(alloc, case)?;
-    let price = Price::new(1_010).ok_or("price")?;
-    let position = Position::new(alloc);
-    let mut end = position.from_end(false);
-    let now = Stamp::nearest(1_709_251_200_000);
-    let planned = plan_result(alloc, Some(&found), price, &mut end, None, now);
+    let planned = plan_of_result(alloc, Some(&found), None)?;
     expect(
         matches!(planned, Err(Fault::Store)),
         "a count that no broker has is planned with",
