@@ -3,7 +3,8 @@
 A function is proved by its own body and the contracts of what it calls, so an edit of another function changes nothing in its proof. The
 controls of a crate are tried by one check from nothing, which has to succeed; what it proved is the base of the checks that follow. A check
 has up to MOST mutants, and a mutant is rejected if the prover reports an error in its function or in the answers of that function. A mutant
-for which it reports none, or one of a name, is tried alone, as `rt must-fail` does it.
+for which it reports none is tried alone, as `rt must-fail` does it. One for which it reports only that a name is missing is not rejected: that
+says nothing of a contract.
 
 It calls functions of the kit's rt (tried on kit 13f) over the libraries in the folders out/ of the tree, which `./brk` or `rt check` built."""
 import os
@@ -66,13 +67,14 @@ class Edit:
         """The first error in a function of this edit, in its source if there is one."""
         functions = {function for _, function in self.places if function}
         own = [it for it in errors if it[1] in functions]
-        return next((it[2] for it in own if it[0].startswith('src/')), own[0][2] if own else None)
+        # one that is of no name first, and of these one in the source
+        return min(own, key=lambda it: (bool(NAME.search(it[2])), not it[0].startswith('src/')))[2] if own else None
 
 
 def errors_of(said, texts, folder):
     """The errors of a check, each with its file and its function."""
-    found = []
-    for line in said.split('\n'):
+    found, lines = [], said.split('\n')
+    for line, after in zip(lines, [*lines[1:], '']):
         it = ERROR.match(line)
         if it and (it[1] or 'error' in it[4]):
             if it[2].startswith('src/'):
@@ -80,7 +82,8 @@ def errors_of(said, texts, folder):
                 function = function_at(text, len('\n'.join(text.split('\n')[:int(it[3])])))
             else:
                 function = it[2].split('/')[-2]
-            found.append((it[2], function, line))
+            # the prover breaks a long line before "has no field"
+            found.append((it[2], function, f'{line} {after.strip()}' if after.startswith('  has no ') else line))
     return found
 
 
@@ -150,4 +153,4 @@ class Trial:
             errors = errors_of(ran.stdout, texts, self.crate.folder) if 'logic=not-proved' in ran.stdout else []
             for mutant in group:
                 error = mutant.error_in(errors)
-                yield (mutant, True, error) if error and not NAME.search(error) else (mutant, *self.alone(mutant))
+                yield (mutant, not NAME.search(error), error) if error else (mutant, *self.alone(mutant))
