@@ -1,4 +1,4 @@
--- The lots and the cash rows of an account that a read by the index returns are those of the tables.
+-- The lots and the cash rows of an account that are read by the index equal those of the tables.
 use Rattle.std.proofs.Common.{◌≡◌, ◌∙◌, ◌==◌, ◌&&◌, ◌+◌, ◌-◌, ◌<◌, ◌≤◌, ℕ, Bool, true, false, List, [], IsTrue, drop, filter, length, map, refl, sym, ap, take, arith, inl, inr, eq-eqb}
 use Rattle.std.specs.Prelude.{nat_le}
 use Rattle.std.proofs.Math.Nat.{min-le_left}

@@ -7,8 +7,6 @@ ghost use Rattle.brk_store_index.specs.Ages.{ages_in};
 ghost use Rattle.brk_store_index.specs.Index.{lot_of_age};
 ghost use Rattle.brk_store_transactions.specs.Holds.{ReadPost};
 ghost use Rattle.brk_store.specs.Indexed.{HasRowOfEachAge};
-ghost use Rattle.brk_tables_schema.specs.Desk.{Holdings};
-ghost use Rattle.brk_tables_schema.specs.Statements.{IsFirstMatch};
 
 use crate::Store;
 use crate::index::StoreIndex;
@@ -16,7 +14,7 @@ use brk_money::{CallFault, Id, Stamp, StoreFailed};
 use brk_ref::{HoldingRow, Symbol};
 use brk_store_index::{Group, RowAge};
 use brk_store_reads::by_age::{RowsByAge, read_chosen_rows};
-use brk_store_transactions::begin_transaction;
+use brk_store_reads::lots_by_symbol::read_lot_by_trade;
 use sqlite::{Alter, Connection};
 use std::alloc::Global;
 use std::collections::VecDeque;
@@ -27,19 +25,6 @@ const PAGE_SIZE: usize = 4;
 // A desk with at most so many lots reads a page by a scan of HOLDING, which then takes less time than
 // up to 4 reads by key.
 const MOST_SCANNED_LOTS: usize = 64;
-
-#[tactic(auto, using(brk_store_transactions::proofs::Ending::read_is_over))]
-fn read_lot_by_trade<S: Alter>(
-    conn: &mut Connection<S>,
-    trade: Id,
-) -> Result<Option<HoldingRow>, StoreFailed>
-    requires { conn.old.in_transaction ≡ false }
-    ensures mode { conn.new.in_transaction ≡ false }
-    ensures read { ReadPost S.Store conn.old conn.new result (IsFirstMatch Holdings abstract_holding_row (λ r. r.trade == trade)) }
-{
-    let mut tx = begin_transaction(conn);
-    brk_tables_trading::lot_by_trade(&mut tx, trade)
-}
 
 // The lot must also have been opened at `stamp`.
 fn is_lot_of_position(row: &HoldingRow, account: Id, symbol: &Symbol, stamp: Stamp) -> bool

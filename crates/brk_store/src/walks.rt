@@ -2,9 +2,9 @@
 //! (`walk_..`). A walk returns `Ok` only after the last row was taken. It fails with the first
 //! error of the visitor (`Cause`) or of the closure, or with a fault (`Failed`), after a prefix of
 //! the rows: `Store` also if a row is malformed or if the `sqlite` crate runs out of memory, and
-//! `Memory` if decoding does. The store is borrowed for the whole walk. A walk does not check that
-//! the account exists. A crash after a walk exposes only states that a crash before it could
-//! expose.
+//! `Memory` if decoding does, or the walk that keeps the rows it read by the index. The store is
+//! borrowed for the whole walk. A walk does not check that the account exists. A crash after a walk
+//! exposes only states that a crash before it could expose.
 
 ghost use Rattle.std.specs.Fn.{CalledAt};
 ghost use Rattle.brk_ref.specs.Rows.{abstract_holding_row, abstract_cash_row, abstract_trade_row};

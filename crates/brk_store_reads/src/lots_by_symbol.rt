@@ -23,8 +23,9 @@ use std::alloc::{AllocError, Global};
 use std::cmp::Ordering;
 use std::collections::VecDeque;
 
+/// The lot that a trade opened.
 #[tactic(auto, using(brk_store_transactions::proofs::Ending::read_is_over))]
-fn read_lot_by_trade<S: Alter>(
+pub fn read_lot_by_trade<S: Alter>(
     conn: &mut Connection<S>,
     trade: Id,
 ) -> Result<Option<HoldingRow>, StoreFailed>

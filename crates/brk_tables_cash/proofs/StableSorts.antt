@@ -113,7 +113,7 @@ module _ {X : Type 0} (less : X → X → Bool) (order : IsStrictWeakOrder less)
       next : (k : ℕ) → suc k + 1 ≡ suc (k + 1)
       next k = omega arith
 
-  -- ---- a list that ascends is told by the elements of which neither is less
+  -- ---- an ascending list is determined by its elements of equal key
 
   found_at_least : (x m : X) (ys : List X) (w : X) (ws : List X) → AtLeast m ys → filter (same x) ys ≡ w ∷ ws → less x m ≡ false
   found_at_least x m [] w ws h e = absurd (let f = e in cc)
