@@ -7,6 +7,7 @@ use brk_ref::{
 };
 use brk_tests_unit::expect::{expect_equal, expect_text};
 use std::alloc::Global;
+use std::slice;
 use std::test::Fail;
 
 const BROKER: [&[u8]; 2] = [b"1", b"Bo"];
@@ -72,12 +73,12 @@ fn expect_customer_tax() -> Result<(), Fail> {
 }
 
 fn expect_bands(alloc: Global) -> Result<(), Fail> {
-    let qty = Qty::new(100).ok_or("quantity")?;
+    let qty = Qty::new(100).unwrap();
     let band: Band = check_band(alloc, &BAND)??;
+    let bands = slice::from_ref(&band);
+    expect_equal(band_for(bands, qty), Rate::new(100))?;
     let last = check_band(alloc, &LAST_BAND)??;
-    let bands = [band];
-    expect_equal(band_for(&bands, qty), Rate::new(100))?;
-    expect_equal(overlaps(&bands, &last), true)
+    expect_equal(overlaps(bands, &last), true)
 }
 
 fn expect_tax_sum(
@@ -86,7 +87,9 @@ fn expect_tax_sum(
     second: &[&[u8]],
     wanted: Option<TaxRate>,
 ) -> Result<(), Fail> {
-    let taxes: [Tax; 2] = [check_tax(alloc, first)??, check_tax(alloc, second)??];
+    let first: Tax = check_tax(alloc, first)??;
+    let second = check_tax(alloc, second)??;
+    let taxes = vec![in alloc; first, second]?;
     expect_equal(tax_sum(&taxes), wanted)
 }
 
@@ -125,19 +128,22 @@ fn is_permitted(alloc: Global, tax_id: &[u8], permissions: &[Permission]) -> Res
 fn expect_permitted_executors(alloc: Global) -> Result<(), Fail> {
     expect_equal(is_permitted(alloc, b"T10", &[])?, true)?;
     expect_equal(is_permitted(alloc, b"T11", &[])?, false)?;
-    let permissions = [permission_with_tax_id(alloc, b"T11")?];
-    expect_equal(is_permitted(alloc, b"T11", &permissions)?, true)
+    let permission = permission_with_tax_id(alloc, b"T11")?;
+    let permissions = slice::from_ref(&permission);
+    expect_equal(is_permitted(alloc, b"T11", permissions)?, true)
+}
+
+fn key_of_first_row(alloc: Global) -> Result<Key, Fail> {
+    let n = RowNumber::new(1).unwrap();
+    let batch = BatchName::parse(alloc, b"A")?.ok_or("batch name")?;
+    Ok(Key { batch, n })
 }
 
 fn kept_reply(alloc: Global) -> Result<Kept, Fail> {
-    let n = RowNumber::new(1).ok_or("number of a row")?;
-    let batch = BatchName::parse(alloc, b"A")?.ok_or("batch name")?;
-    let row_text = String::from_str(alloc, "broker\x1f1\x1fBo")?;
-    let line = String::from_str(alloc, "1709251200000")?;
     Ok(Kept {
-        key: Key { batch, n },
-        row_text,
-        line,
+        key: key_of_first_row(alloc)?,
+        row_text: String::from_str(alloc, "broker\x1f1\x1fBo")?,
+        line: String::from_str(alloc, "1709251200000")?,
     })
 }
 
@@ -151,12 +157,10 @@ fn expect_kept_reply(alloc: Global) -> Result<(), Fail> {
 }
 
 fn old_cash_row(alloc: Global) -> Result<OldCashRow, Fail> {
-    let trade = Id::new(1).ok_or("trade")?;
-    let amount = Cents::new(-102_510).ok_or("amount")?;
     Ok(OldCashRow {
-        trade,
+        trade: Id::new(1).unwrap(),
         stamp: Stamp::nearest(1_709_251_200_017),
-        amount,
+        amount: Cents::new(-102_510).unwrap(),
         name: String::from_str(alloc, "Market-Buy 100 shares of Acme")?,
     })
 }

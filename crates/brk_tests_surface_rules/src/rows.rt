@@ -1,8 +1,13 @@
-//! The rows that the plans of a purchase of 100 shares of ABC and of its result at 10.10 add.
+//! The rows that the plans of a new broker, of a purchase of 100 shares of ABC and of its result at
+//! 10.10 add.
 
 use brk_money::Status;
-use brk_ref::{CashRow, HistoryRow, HoldingRow, LotChange, SettlementRow, SummaryRow, TradeRow};
+use brk_ref::{Broker, CashRow, HistoryRow, HoldingRow, LotChange, SettlementRow, SummaryRow, TradeRow};
 use brk_trade::Change;
+
+fn is_new_broker(broker: &Broker) -> bool {
+    broker.id.get() == 1 && broker.name.as_str() == "Bo"
+}
 
 fn is_submitted_purchase(row: &TradeRow) -> bool {
     row.id.get() == 1
@@ -49,8 +54,9 @@ fn is_payment(row: &CashRow) -> bool {
         && row.name.as_str() == "Market-Buy 100 shares of Acme"
 }
 
-fn adds_row_of_purchase(change: &Change) -> bool {
+fn adds_wanted_row(change: &Change) -> bool {
     match change {
+        Change::AddBroker(row) => is_new_broker(row),
         Change::AddTrade(row) => is_submitted_purchase(row),
         Change::AddHistory(row) => is_status_of_purchase(row),
         Change::AddLot(row) => is_opened_lot(row),
@@ -62,11 +68,11 @@ fn adds_row_of_purchase(change: &Change) -> bool {
     }
 }
 
-/// Returns how many of the changes add the row of the purchase or of its result that is wanted.
-pub(crate) fn count_rows_of_purchase(changes: &[Change]) -> usize {
+/// Returns how many of the changes add a row that is wanted.
+pub(crate) fn count_added_rows(changes: &[Change]) -> usize {
     let mut rows = 0usize;
     for change in changes {
-        if adds_row_of_purchase(change) {
+        if adds_wanted_row(change) {
             rows = rows.saturating_add(1);
         }
     }

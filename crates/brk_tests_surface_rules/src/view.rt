@@ -1,5 +1,5 @@
 use brk_money::{Cents, Id, Stamp, Wide};
-use brk_ref::{Broker, Customer, LotChange, Name, check_broker, check_customer};
+use brk_ref::{LotChange, Name};
 use brk_tests_unit::expect::expect_text;
 use brk_tests_unit::result_plans::{SUBMITTED_CASH_PURCHASE, trade_row_of_case};
 use brk_view::{
@@ -7,8 +7,17 @@ use brk_view::{
     lookup_account, lookup_ids, lookup_lots, lookup_symbol, position, recent, status, submitted,
     view_fields,
 };
-use std::alloc::Global;
+use std::alloc::{AllocError, Global};
+use std::slice;
 use std::test::Fail;
+
+fn append_record(told: &mut String, record: &[String]) -> Result<(), AllocError> {
+    for field in record {
+        told.push_str(field.as_str())?;
+        told.push_str(",")?;
+    }
+    told.push_str("\n")
+}
 
 /// Returns the records of a view as lines, in which each field ends with a comma. Fails only if
 /// memory runs out.
@@ -16,11 +25,7 @@ pub fn format_records(alloc: Global, view: &View) -> Result<String, Fail> {
     let records: Vec<Vec<String>> = view_fields(alloc, view)?;
     let mut told = String::new(alloc);
     for record in &records {
-        for field in record {
-            told.push_str(field.as_str())?;
-            told.push_str(",")?;
-        }
-        told.push_str("\n")?;
+        append_record(&mut told, record)?;
     }
     Ok(told)
 }
@@ -32,19 +37,22 @@ fn expect_records(alloc: Global, view: &View, wanted: &str) -> Result<(), Fail> 
 
 fn expect_worths(alloc: Global) -> Result<(), Fail> {
     let worth = AccountWorth {
-        account: Id::new(100).ok_or("account")?,
-        balance: Cents::new(840_340).ok_or("balance")?,
+        account: Id::new(100).unwrap(),
+        balance: Cents::new(840_340).unwrap(),
         assets: Wide::new(150_000),
     };
     let view: View = position(alloc, vec![in alloc; worth]?)?;
     expect_records(alloc, &view, "100,8403.40,1500.00,\n")
 }
 
+fn name(alloc: Global, text: &[u8]) -> Result<Name, Fail> {
+    Ok(Name::parse(alloc, text)?.ok_or("name")?)
+}
+
 fn expect_volumes(alloc: Global) -> Result<(), Fail> {
-    let Broker { id, name } = check_broker(alloc, &[b"1", b"Bo"])??;
     let volume = BrokerVolume {
-        broker: id,
-        name,
+        broker: Id::new(1).unwrap(),
+        name: name(alloc, b"Bo")?,
         volume: Wide::new(30_000),
     };
     let view = broker_volume(alloc, vec![in alloc; volume]?)?;
@@ -52,27 +60,23 @@ fn expect_volumes(alloc: Global) -> Result<(), Fail> {
 }
 
 fn expect_submitted(alloc: Global) -> Result<(), Fail> {
-    let trades = [trade_row_of_case(alloc, &SUBMITTED_CASH_PURCHASE)?];
-    let view = submitted(alloc, &trades)?;
+    let trade = trade_row_of_case(alloc, &SUBMITTED_CASH_PURCHASE)?;
+    let view = submitted(alloc, slice::from_ref(&trade))?;
     expect_records(alloc, &view, "1,TMB,ABC,100,10.00,\n")
 }
 
-fn names_of_customer(alloc: Global) -> Result<(Name, Name), Fail> {
-    let fields: [&[u8]; 5] = [b"10", b"1", b"T10", b"Lee", b"Ann"];
-    let customer: Customer = check_customer(alloc, &fields)??;
-    Ok((customer.last_name, customer.first_name))
+// The account has no trades.
+fn status_without_trades(alloc: Global) -> Result<AccountStatus, Fail> {
+    Ok(AccountStatus {
+        last_name: name(alloc, b"Lee")?,
+        first_name: name(alloc, b"Ann")?,
+        broker: name(alloc, b"Bo")?,
+        trades: Vec::new(alloc),
+    })
 }
 
-// The account has no trades.
 fn expect_status(alloc: Global) -> Result<(), Fail> {
-    let (last_name, first_name) = names_of_customer(alloc)?;
-    let Broker { name, .. } = check_broker(alloc, &[b"1", b"Bo"])??;
-    let view = status(AccountStatus {
-        last_name,
-        first_name,
-        broker: name,
-        trades: Vec::new(alloc),
-    });
+    let view = status(status_without_trades(alloc)?);
     expect_records(alloc, &view, "Lee,Ann,Bo,\n")
 }
 
@@ -85,7 +89,7 @@ fn expect_no_trades(alloc: Global) -> Result<(), Fail> {
 }
 
 fn expect_touched_lots(alloc: Global) -> Result<(), Fail> {
-    let trade = Id::new(1).ok_or("trade")?;
+    let trade = Id::new(1).unwrap();
     let opened = LotTouch {
         change: LotChange {
             lot: trade,

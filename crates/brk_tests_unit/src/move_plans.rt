@@ -7,25 +7,23 @@ use std::alloc::Global;
 use std::test::Fail;
 
 // A movement of account 100: its direction, its amount in cents, the balance before it in cents
-// (`None` without the account), whether the limit of movements is reached, and the number that it
-// would have.
+// (`None` without the account), and whether the limit of movements is reached.
 #[derive(Clone, Copy)]
 struct Case {
     direction: Direction,
     cents: u64,
     balance: Option<i64>,
     has_all_movements: bool,
-    next: u64,
 }
 
-// Checks that the reply to the movement of a case after the last stamp 1709251200021, at an earlier
-// clock reading, or `no,` and the refusal of the movement, is the text `wanted`. Fails with both
+// Checks that the reply to the movement of a case, which has the number 4, after the last stamp
+// 1709251200021, at an earlier clock reading, or `no,` and the refusal of the movement, is the text `wanted`. Fails with both
 // texts if not. Fails also if a number of the case is not within its limits, and if memory runs
 // out.
 fn expect_movement_reply(alloc: Global, case: &Case, wanted: &str) -> Result<(), Fail> {
     let movement = Movement {
         direction: case.direction,
-        account: Id::new(100).ok_or("account")?,
+        account: Id::new(100).unwrap(),
         amount: MovedAmount::new(case.cents).ok_or("amount")?,
     };
     let balance = match case.balance {
@@ -35,7 +33,7 @@ fn expect_movement_reply(alloc: Global, case: &Case, wanted: &str) -> Result<(),
     let found = MovementPlanFacts {
         balance,
         has_all_movements: case.has_all_movements,
-        next: MoveId::new(case.next).ok_or("number")?,
+        next: MoveId::new(4).unwrap(),
     };
     let last = Stamp::new(1_709_251_200_021);
     let now = Stamp::nearest(1_709_251_200_000);
@@ -49,7 +47,6 @@ const DEPOSIT: Case = Case {
     cents: 10_000,
     balance: Some(840_340),
     has_all_movements: false,
-    next: 4,
 };
 
 // Movements, each with the text of its reply: a deposit; a withdrawal beyond the balance; and

@@ -1,12 +1,12 @@
-use crate::expect::expect;
+use crate::expect::expect_equal;
 use crate::planned_reply::expect_planned_reply;
+use crate::plans::symbol_abc;
 use brk_lots::Position;
 use brk_money::{
     Cents, Fault, Id, MoveId, Planned, Price, Qty, Rate, Stamp, Status, TaxRate, TradeType,
 };
 use brk_ref::{
-    AccountRow, BrokerRow, ChargeAmount, Listing, Symbol, Tier, check_account, check_broker,
-    check_security,
+    AccountRow, BrokerRow, ChargeAmount, Listing, Tier, check_account, check_broker, check_security,
 };
 use brk_trade::{
     Amount, Plan, Posting, ResultPlanFacts, SummaryRow, TradeParties, TradeRow, TradedSecurity,
@@ -47,40 +47,28 @@ pub const SUBMITTED_CASH_PURCHASE: Case = Case {
     last: 1_709_251_200_016,
 };
 
-// The bid, the charge, the commission and the tax of the trade of each case.
-fn amounts_of_trade() -> Result<(Price, ChargeAmount, Amount, Amount), Fail> {
-    let bid = Price::new(1_000).ok_or("bid")?;
-    let charge = ChargeAmount::new(500).ok_or("charge")?;
-    let commission = Amount::new(1_000).ok_or("commission")?;
-    let tax = Amount::new(0).ok_or("tax")?;
-    Ok((bid, charge, commission, tax))
-}
-
 /// Returns the TRADE row of the trade of a case, with the id 1, the account 100, a bid of 10.00, a
 /// charge of 5.00, a commission of 10.00, a tax of 0 and no price, which closes the oldest lots
 /// first. Fails if the quantity is not within its limits, and if memory runs out.
 pub fn trade_row_of_case(alloc: Global, case: &Case) -> Result<TradeRow, Fail> {
-    let id = Id::new(1).ok_or("trade")?;
     let qty = Qty::new(case.qty).ok_or("quantity")?;
-    let account = Id::new(100).ok_or("account")?;
-    let (bid, charge, commission, tax) = amounts_of_trade()?;
-    let symbol = Symbol::parse(alloc, b"ABC")?.ok_or("symbol")?;
+    let symbol = symbol_abc(alloc)?;
     let executor = String::from_str(alloc, "Ann Lee")?;
     Ok(TradeRow {
-        id,
+        id: Id::new(1).unwrap(),
         stamp: Stamp::nearest(1_709_251_200_016),
         status: case.status,
         kind: case.kind,
         is_cash: case.is_cash,
         symbol,
         qty,
-        bid,
-        account,
+        bid: Price::new(1_000).unwrap(),
+        account: Id::new(100).unwrap(),
         executor,
         price: None,
-        charge,
-        commission,
-        tax,
+        charge: ChargeAmount::new(500).unwrap(),
+        commission: Amount::new(1_000).unwrap(),
+        tax: Amount::new(0).unwrap(),
         is_lifo: false,
     })
 }
@@ -104,17 +92,13 @@ fn broker_of_case(alloc: Global, case: &Case) -> Result<BrokerRow, Fail> {
 }
 
 // Returns the account and the broker of a case, with a customer of tier 1 whose tax rates are 20
-// percent in all. Fails if a number is not within its limits, and if memory runs out.
+// percent in all. Fails if the balance is not within its limits, and if memory runs out.
 fn parties_of_case(alloc: Global, case: &Case) -> Result<TradeParties, Fail> {
-    let tier = Tier::new(1).ok_or("tier")?;
-    let rates = TaxRate::new(20_000).ok_or("rates")?;
-    let account = account_of_case(alloc, case)?;
-    let broker = broker_of_case(alloc, case)?;
     Ok(TradeParties {
-        account,
-        broker,
-        tier,
-        rates,
+        account: account_of_case(alloc, case)?,
+        broker: broker_of_case(alloc, case)?,
+        tier: Tier::new(1).unwrap(),
+        rates: TaxRate::new(20_000).unwrap(),
     })
 }
 
@@ -125,8 +109,8 @@ fn summary_of_case(alloc: Global, case: &Case) -> Result<Option<SummaryRow>, Fai
         return Ok(None);
     };
     Ok(Some(SummaryRow {
-        account: Id::new(100).ok_or("account")?,
-        symbol: Symbol::parse(alloc, b"ABC")?.ok_or("symbol")?,
+        account: Id::new(100).unwrap(),
+        symbol: symbol_abc(alloc)?,
         qty,
     }))
 }
@@ -148,29 +132,31 @@ fn security_of_case(alloc: Global, case: &Case) -> Result<TradedSecurity, Fail> 
 /// cash row. Fails if the quantity, the rate or the balance of the case is not within its limits,
 /// and if memory runs out; the shares held and the broker's totals are not checked.
 pub fn result_facts(alloc: Global, case: &Case) -> Result<ResultPlanFacts, Fail> {
-    let next = MoveId::new(1).ok_or("number")?;
     Ok(ResultPlanFacts {
         trade: trade_row_of_case(alloc, case)?,
         parties: parties_of_case(alloc, case)?,
         summary: summary_of_case(alloc, case)?,
         listed: security_of_case(alloc, case)?,
-        posting: Posting { rule: None, next },
+        posting: Posting {
+            rule: None,
+            next: MoveId::new(1).unwrap(),
+        },
     })
 }
 
-// Returns what is planned for a result at 10.10 with the facts `found`, on a position without lots,
-// at the clock reading 1709251200000 and after the last stamp `last`, if any. If `found` is `None`,
-// the trade does not exist. Fails only if memory runs out.
-fn plan_of_result(
+/// Returns what is planned for a result at 10.10 with the facts `found`, on a position without lots,
+/// at the clock reading 1709251200000 and after the last stamp `last`, if any. If `found` is `None`,
+/// the trade does not exist.
+pub fn plan_of_result(
     alloc: Global,
     found: Option<&ResultPlanFacts>,
     last: Option<Stamp>,
-) -> Result<Planned<Plan>, Fail> {
-    let price = Price::new(1_010).ok_or("price")?;
+) -> Planned<Plan> {
+    let price = Price::new(1_010).unwrap();
     let position = Position::new(alloc);
     let mut end = position.from_end(false);
     let now = Stamp::nearest(1_709_251_200_000);
-    Ok(plan_result(alloc, found, price, &mut end, last, now))
+    plan_result(alloc, found, price, &mut end, last, now)
 }
 
 // Checks that the reply to a result (`plan_of_result`), or `no,` and the refusal of the result, is
@@ -181,7 +167,7 @@ fn expect_result_reply(
     last: Option<Stamp>,
     wanted: &str,
 ) -> Result<(), Fail> {
-    let planned = plan_of_result(alloc, found, last)?;
+    let planned = plan_of_result(alloc, found, last);
     expect_planned_reply(alloc, planned, wanted)
 }
 
@@ -234,12 +220,12 @@ const WITHOUT_COMMISSION_BAND: Case = Case {
 };
 
 // The text of the reply to the result of `SUBMITTED_CASH_PURCHASE`.
-const TOLD: &str = "1709251200017,10.10,0.00,-1025.10,2024-03-03,0.00,0.00,8974.90";
+const REPLY_TO_RESULT: &str = "1709251200017,10.10,0.00,-1025.10,2024-03-03,0.00,0.00,8974.90";
 
 // The cases above, and `WITHOUT_COMMISSION_BAND` with the trade in four other statuses, each with
 // the text of its reply.
 const CAUSES: [(Case, &str); 10] = [
-    (SUBMITTED_CASH_PURCHASE, TOLD),
+    (SUBMITTED_CASH_PURCHASE, REPLY_TO_RESULT),
     (WITHOUT_LATER_STAMP, "no,21"),
     (BEYOND_BROKER_LIMIT, "no,14,broker"),
     (BEYOND_BALANCE_LIMIT, "no,14,balance"),
@@ -295,7 +281,7 @@ const LIMITS: [(Case, &str); 3] = [
             commissions: 99_999_999_999_998_990,
             ..SUBMITTED_CASH_PURCHASE
         },
-        TOLD,
+        REPLY_TO_RESULT,
     ),
     (
         Case {
@@ -331,15 +317,17 @@ const GREATEST_TRADE_COUNT: i64 = 1_000_000_000_000;
 // Numbers of completed trades that no broker can have.
 const IMPOSSIBLE_TRADE_COUNTS: [i64; 4] = [i64::MIN, -1, GREATEST_TRADE_COUNT + 1, i64::MAX];
 
+// Checks that a result (`plan_of_result`) fails with `Store`. Fails with the fault, if any, if not.
+fn expect_store_fault(alloc: Global, found: &ResultPlanFacts) -> Result<(), Fail> {
+    let planned = plan_of_result(alloc, Some(found), None);
+    expect_equal(planned.err(), Some(Fault::Store))
+}
+
 // Checks that the result of the trade of a case fails with `Store`. Fails if not, and if memory runs
 // out.
-fn expect_store_fault(alloc: Global, case: &Case) -> Result<(), Fail> {
+fn expect_case_store_fault(alloc: Global, case: &Case) -> Result<(), Fail> {
     let found = result_facts(alloc, case)?;
-    let planned = plan_of_result(alloc, Some(&found), None)?;
-    expect(
-        matches!(planned, Err(Fault::Store)),
-        "a count that no broker has is planned with",
-    )
+    expect_store_fault(alloc, &found)
 }
 
 /// Checks that a result is planned if the broker's number of completed trades is the greatest, and
@@ -350,13 +338,13 @@ pub fn a_result_needs_a_possible_number_of_trades(alloc: Global) -> Result<(), F
         trades: GREATEST_TRADE_COUNT,
         ..SUBMITTED_CASH_PURCHASE
     };
-    expect_case_reply(alloc, &greatest, TOLD)?;
+    expect_case_reply(alloc, &greatest, REPLY_TO_RESULT)?;
     for trades in IMPOSSIBLE_TRADE_COUNTS {
         let case = Case {
             trades,
             ..WITHOUT_COMMISSION_BAND
         };
-        expect_store_fault(alloc, &case)?;
+        expect_case_store_fault(alloc, &case)?;
     }
     Ok(())
 }
