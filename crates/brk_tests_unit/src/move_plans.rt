@@ -17,9 +17,9 @@ struct Case {
 }
 
 // Checks that the reply to the movement of a case, which has the number 4, after the last stamp
-// 1709251200021, at an earlier clock reading, or `no,` and the refusal of the movement, is the text `wanted`. Fails with both
-// texts if not. Fails also if a number of the case is not within its limits, and if memory runs
-// out.
+// 1709251200021, at an earlier clock reading, or `no,` and the refusal of the movement, is the text
+// `wanted`. Fails with both texts if not. Fails also if a number of the case is not within its
+// limits, and if memory runs out.
 fn expect_movement_reply(alloc: Global, case: &Case, wanted: &str) -> Result<(), Fail> {
     let movement = Movement {
         direction: case.direction,

@@ -1,33 +1,28 @@
-use crate::expect::expect_text;
+use crate::expect::{expect_printed, expect_text};
 use brk_desk_commands::line_text;
-use brk_money::{Fault, Refusal};
-use brk_trade::Plan;
-use std::alloc::{AllocError, Global};
+use brk_money::Planned;
+use brk_trade::{Plan, Reply};
+use std::alloc::Global;
 use std::test::Fail;
 
-// Returns `no,` and the text of the refusal. Fails only if memory runs out.
-fn format_refusal(alloc: Global, refusal: Refusal) -> Result<String, AllocError> {
-    format!(in alloc; "no,{refusal}")
+/// Checks that the fields of a reply, separated by commas, are the text `wanted`. Fails with both
+/// texts if not. Fails also if memory runs out.
+pub fn expect_reply(alloc: Global, reply: &Reply, wanted: &str) -> Result<(), Fail> {
+    let told = line_text(alloc, reply)?;
+    expect_text(told.as_str(), wanted)
 }
 
-/// Returns the reply of a plan as text, its fields separated by commas, or `no,` and the text of
-/// the refusal. Fails with `Memory` only.
-fn format_planned_reply(alloc: Global, planned: &Result<Plan, Refusal>) -> Result<String, Fault> {
-    match planned {
-        Ok(plan) => line_text(alloc, &plan.reply),
-        Err(refusal) => Ok(format_refusal(alloc, *refusal)?),
-    }
-}
-
-/// Checks that a plan is made or refused, and that its reply, or `no,` and the refusal, is the text
-/// `wanted` (`format_planned_reply`). Fails with both texts if not. Fails also if `planned` is a
-/// fault, and if memory runs out.
+/// Checks that the reply of a plan (`expect_reply`), or `no,` and the text of its refusal, or the
+/// name of its fault, is the text `wanted`. Fails with both texts if not. Fails also if memory runs
+/// out.
 pub fn expect_planned_reply(
     alloc: Global,
-    planned: Result<Result<Plan, Refusal>, Fault>,
+    planned: Planned<Plan>,
     wanted: &str,
 ) -> Result<(), Fail> {
-    let planned = planned?;
-    let told = format_planned_reply(alloc, &planned)?;
-    expect_text(told.as_str(), wanted)
+    match planned {
+        Ok(Ok(plan)) => expect_reply(alloc, &plan.reply, wanted),
+        Ok(Err(refusal)) => expect_printed(alloc, &format_args!("no,{refusal}"), wanted),
+        Err(fault) => expect_printed(alloc, &format_args!("{fault:?}"), wanted),
+    }
 }

@@ -18,8 +18,8 @@ pub(crate) fn symbol_abc(alloc: Global) -> Result<Symbol, Fail> {
     Ok(Symbol::parse(alloc, b"ABC")?.ok_or("symbol")?)
 }
 
-// Returns the last trade of ABC, at 10.00, after which 100 more shares may be traded up to the limit
-// of the volume. Fails only if memory runs out.
+// Returns the last trade of ABC, at 10.00, after which 100 more shares may be traded up to the
+// limit of the volume. Fails only if memory runs out.
 fn last_trade_100_shares_below_volume_limit(alloc: Global) -> Result<LastTrade, Fail> {
     Ok(LastTrade {
         symbol: symbol_abc(alloc)?,
@@ -50,9 +50,9 @@ fn quote_with_pending_limit_buy(alloc: Global) -> Result<Vec<Quote>, Fail> {
 }
 
 // Checks that the reply to a feed with the fields `ticks`, the symbol, price and quantity of each
-// tick, on the quote of `quote_with_pending_limit_buy`, or `no,` and the refusal of the feed, is the
-// text `wanted`. There is no last stamp, and the clock reading is 1709251200019. Fails with both
-// texts if not. Fails also if the ticks are malformed, and if memory runs out.
+// tick, on the quote of `quote_with_pending_limit_buy`, or `no,` and the refusal of the feed, is
+// the text `wanted`. There is no last stamp, and the clock reading is 1709251200019. Fails with
+// both texts if not. Fails also if the ticks are malformed, and if memory runs out.
 fn expect_feed_reply(alloc: Global, ticks: &[&[u8]], wanted: &str) -> Result<(), Fail> {
     let now = Stamp::nearest(1_709_251_200_019);
     let feed = parse_market_feed(alloc, ticks)??;
@@ -72,9 +72,10 @@ const FEEDS: [(&[&[u8]], &str); 4] = [
     (&[b"ABC", b"9.50", b"101", b"QQQ", b"1.00", b"1"], "no,4"),
 ];
 
-/// Checks that a feed up to the limit of the volume is accepted and triggers a limit buy, that feeds of one and of two ticks
-/// beyond the limit are refused with `Range` (14), `volume`, and that a feed beyond the limit with
-/// an unknown symbol is refused with `NoSecurity` (4). Fails if not, and if memory runs out.
+/// Checks that a feed up to the limit of the volume is accepted and triggers a limit buy, that
+/// feeds of one and of two ticks beyond the limit are refused with `Range` (14), `volume`, and that
+/// a feed beyond the limit with an unknown symbol is refused with `NoSecurity` (4). Fails if not,
+/// and if memory runs out.
 pub fn a_feed_beyond_volume_limit_is_refused(alloc: Global) -> Result<(), Fail> {
     for (ticks, wanted) in &FEEDS {
         expect_feed_reply(alloc, ticks, wanted)?;
@@ -111,9 +112,9 @@ pub const PURCHASE: [&[u8]; 10] = [
 ];
 
 // Checks that the reply to the order `PURCHASE` with `trades` as the last trade id
-// (`purchase_facts`), on a position without lots, or `no,` and the refusal of the order, is the text
-// `wanted`. There is no last stamp, and the clock reading is 1709251200020. Fails with both texts if
-// not. Fails also if memory runs out.
+// (`purchase_facts`), on a position without lots, or `no,` and the refusal of the order, is the
+// text `wanted`. There is no last stamp, and the clock reading is 1709251200020. Fails with both
+// texts if not. Fails also if memory runs out.
 fn expect_purchase_reply(alloc: Global, trades: u64, wanted: &str) -> Result<(), Fail> {
     let found = purchase_facts(trades);
     let order = parse_trade_order(alloc, &PURCHASE)??;

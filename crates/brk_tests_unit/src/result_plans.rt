@@ -1,10 +1,7 @@
-use crate::expect::expect_equal;
 use crate::planned_reply::expect_planned_reply;
 use crate::plans::symbol_abc;
 use brk_lots::Position;
-use brk_money::{
-    Cents, Fault, Id, MoveId, Planned, Price, Qty, Rate, Stamp, Status, TaxRate, TradeType,
-};
+use brk_money::{Cents, Id, MoveId, Planned, Price, Qty, Rate, Stamp, Status, TaxRate, TradeType};
 use brk_ref::{
     AccountRow, BrokerRow, ChargeAmount, Listing, Tier, check_account, check_broker, check_security,
 };
@@ -144,9 +141,9 @@ pub fn result_facts(alloc: Global, case: &Case) -> Result<ResultPlanFacts, Fail>
     })
 }
 
-/// Returns what is planned for a result at 10.10 with the facts `found`, on a position without lots,
-/// at the clock reading 1709251200000 and after the last stamp `last`, if any. If `found` is `None`,
-/// the trade does not exist.
+/// Returns what is planned for a result at 10.10 with the facts `found`, on a position without
+/// lots, at the clock reading 1709251200000 and after the last stamp `last`, if any. If `found` is
+/// `None`, the trade does not exist.
 pub fn plan_of_result(
     alloc: Global,
     found: Option<&ResultPlanFacts>,
@@ -159,8 +156,9 @@ pub fn plan_of_result(
     plan_result(alloc, found, price, &mut end, last, now)
 }
 
-// Checks that the reply to a result (`plan_of_result`), or `no,` and the refusal of the result, is
-// the text `wanted`. Fails with both texts if not, and if memory runs out.
+// Checks that the reply to a result (`plan_of_result`), or `no,` and the refusal of the result, or
+// the name of its fault, is the text `wanted`. Fails with both texts if not, and if memory runs
+// out.
 fn expect_result_reply(
     alloc: Global,
     found: Option<&ResultPlanFacts>,
@@ -172,8 +170,9 @@ fn expect_result_reply(
 }
 
 // Checks that the reply to the result of the trade of a case, or `no,` and the refusal of the
-// result, is the text `wanted`. If the last stamp of the case is not within its limits, there is
-// none. Fails with both texts if not. Fails also if `result_facts` fails, and if memory runs out.
+// result, or the name of its fault, is the text `wanted`. If the last stamp of the case is not
+// within its limits, there is none. Fails with both texts if not. Fails also if `result_facts`
+// fails, and if memory runs out.
 fn expect_case_reply(alloc: Global, case: &Case, wanted: &str) -> Result<(), Fail> {
     let found = result_facts(alloc, case)?;
     expect_result_reply(alloc, Some(&found), Stamp::new(case.last), wanted)
@@ -219,8 +218,8 @@ const WITHOUT_COMMISSION_BAND: Case = Case {
     ..BEYOND_SUMMARY_LIMIT
 };
 
-// The text of the reply to the result of `SUBMITTED_CASH_PURCHASE`.
-const REPLY_TO_RESULT: &str = "1709251200017,10.10,0.00,-1025.10,2024-03-03,0.00,0.00,8974.90";
+/// The text of the reply to the result of `SUBMITTED_CASH_PURCHASE`.
+pub const REPLY_TO_RESULT: &str = "1709251200017,10.10,0.00,-1025.10,2024-03-03,0.00,0.00,8974.90";
 
 // The cases above, and `WITHOUT_COMMISSION_BAND` with the trade in four other statuses, each with
 // the text of its reply.
@@ -317,19 +316,6 @@ const GREATEST_TRADE_COUNT: i64 = 1_000_000_000_000;
 // Numbers of completed trades that no broker can have.
 const IMPOSSIBLE_TRADE_COUNTS: [i64; 4] = [i64::MIN, -1, GREATEST_TRADE_COUNT + 1, i64::MAX];
 
-// Checks that a result (`plan_of_result`) fails with `Store`. Fails with the fault, if any, if not.
-fn expect_store_fault(alloc: Global, found: &ResultPlanFacts) -> Result<(), Fail> {
-    let planned = plan_of_result(alloc, Some(found), None);
-    expect_equal(planned.err(), Some(Fault::Store))
-}
-
-// Checks that the result of the trade of a case fails with `Store`. Fails if not, and if memory runs
-// out.
-fn expect_case_store_fault(alloc: Global, case: &Case) -> Result<(), Fail> {
-    let found = result_facts(alloc, case)?;
-    expect_store_fault(alloc, &found)
-}
-
 /// Checks that a result is planned if the broker's number of completed trades is the greatest, and
 /// that it fails with `Store` if the number is out of range, whatever else would refuse it. Fails if
 /// not, and if memory runs out.
@@ -344,7 +330,7 @@ pub fn a_result_needs_a_possible_number_of_trades(alloc: Global) -> Result<(), F
             trades,
             ..WITHOUT_COMMISSION_BAND
         };
-        expect_case_store_fault(alloc, &case)?;
+        expect_case_reply(alloc, &case, "Store")?;
     }
     Ok(())
 }
