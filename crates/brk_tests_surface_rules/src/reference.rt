@@ -35,9 +35,9 @@ const CUSTOMER_TAX: [&[u8]; 2] = [b"10", b"1"];
 
 fn expect_broker(alloc: Global) -> Result<(), Fail> {
     let checked: Planned<Broker> = check_broker(alloc, &BROKER);
-    let Broker { id, name } = checked??;
-    expect_equal(id.get(), 1)?;
-    expect_text(name.as_str(), "Bo")
+    let broker = checked??;
+    expect_equal(broker.id.get(), 1)?;
+    expect_text(broker.name.as_str(), "Bo")
 }
 
 fn expect_customer(alloc: Global) -> Result<(), Fail> {
@@ -55,11 +55,11 @@ fn expect_account(alloc: Global) -> Result<(), Fail> {
 }
 
 fn expect_security(alloc: Global) -> Result<(), Fail> {
-    let Listing { security, price } = check_security(alloc, &SECURITY)??;
-    let Security { symbol, sector, .. } = security;
-    expect_equal(price.get(), 1_000)?;
-    expect_text(symbol.as_str(), "ABC")?;
-    expect_text(sector.as_str(), "Tech")
+    let listing: Listing = check_security(alloc, &SECURITY)??;
+    let security: &Security = &listing.security;
+    expect_equal(listing.price.get(), 1_000)?;
+    expect_text(security.symbol.as_str(), "ABC")?;
+    expect_text(security.sector.as_str(), "Tech")
 }
 
 fn expect_charge() -> Result<(), Fail> {
@@ -166,17 +166,12 @@ fn old_cash_row(alloc: Global) -> Result<OldCashRow, Fail> {
 }
 
 fn expect_old_cash_row(alloc: Global) -> Result<(), Fail> {
-    let OldCashRow {
-        trade,
-        stamp,
-        amount,
-        name,
-    } = old_cash_row(alloc)?;
+    let row = old_cash_row(alloc)?;
     expect_equal(
-        (trade.get(), stamp.get(), amount.get()),
+        (row.trade.get(), row.stamp.get(), row.amount.get()),
         (1, 1_709_251_200_017, -102_510),
     )?;
-    expect_text(name.as_str(), "Market-Buy 100 shares of Acme")
+    expect_text(row.name.as_str(), "Market-Buy 100 shares of Acme")
 }
 
 /// Checks public names of brk_ref: the records and the parsers of their fields, which executor is

@@ -2,7 +2,9 @@
 //! 10.10 add.
 
 use brk_money::Status;
-use brk_ref::{Broker, CashRow, HistoryRow, HoldingRow, LotChange, SettlementRow, SummaryRow, TradeRow};
+use brk_ref::{
+    Broker, CashRow, HistoryRow, HoldingRow, LotChange, SettlementRow, SummaryRow, TradeRow,
+};
 use brk_trade::Change;
 
 fn is_new_broker(broker: &Broker) -> bool {

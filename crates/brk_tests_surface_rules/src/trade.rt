@@ -1,11 +1,10 @@
 use crate::rows::count_added_rows;
-use brk_desk_commands::line_text;
 use brk_lots::Position;
 use brk_money::{Id, Planned, Stamp, Status};
 use brk_ref::check_broker;
 use brk_ref_orders::{Order, Update, parse_executor_update, parse_trade_order};
-use brk_tests_unit::expect::{expect, expect_equal, expect_text};
-use brk_tests_unit::planned_reply::expect_planned_reply;
+use brk_tests_unit::expect::{expect, expect_equal};
+use brk_tests_unit::planned_reply::{expect_planned_reply, expect_reply};
 use brk_tests_unit::plans::{PURCHASE, purchase_facts};
 use brk_tests_unit::result_plans::{
     REPLY_TO_RESULT, SUBMITTED_CASH_PURCHASE, plan_of_result, result_facts, trade_row_of_case,
@@ -22,18 +21,8 @@ fn clock_reading() -> Stamp {
     Stamp::nearest(1_709_251_200_000)
 }
 
-fn expect_reply(alloc: Global, reply: &Reply, line: &str) -> Result<(), Fail> {
-    let told: String = line_text(alloc, reply)?;
-    expect_text(told.as_str(), line)
-}
-
 // The plan has the reply `line`, and adds so many of the rows that are wanted.
-fn expect_plan(
-    alloc: Global,
-    planned: Planned<Plan>,
-    line: &str,
-    rows: usize,
-) -> Result<(), Fail> {
+fn expect_plan(alloc: Global, planned: Planned<Plan>, line: &str, rows: usize) -> Result<(), Fail> {
     let plan = planned??;
     expect_reply(alloc, &plan.reply, line)?;
     expect_equal(count_added_rows(&plan.changes), rows)
