@@ -3,13 +3,14 @@
 use brk_desk::Desk;
 use brk_import::{BatchFault, Counts, FaultKind};
 use brk_tests_desks::desks::{
-    Step, desk_with_reference_data, expect_batch_result, run_batch_of_reader,
+    Case, Step, connection_of_desk, desk_with_reference_data, expect_batch_result, open_in_memory,
+    run_batch_of_reader,
 };
-use brk_tests_desks::faulty::{Failing, Narrow};
-use brk_tests_desks::open_in_memory;
-use brk_tests_desks::retried::{ROWS, all_lines_of_retry, first_lines_of_batch};
+use brk_tests_desks::faulty::{Cut, Failing, Narrow};
+use brk_tests_desks::retried::{ROWS, all_lines_of_retry};
 use brk_tests_desks::tables::expect_all_tables;
 use brk_tests_desks::worked::format_batch;
+use brk_tests_unit::expect::expect;
 use sqlite::{Alter, Connection};
 use std::alloc::Global;
 use std::io::ErrorKind;
@@ -44,84 +45,139 @@ const TABLES: &str = "DESK\n1,3,1709251200021\n\
     T,5,result\x1f2\x1f12.10,1709251200020,6.05,20.00,573.95,2024-03-03,505.00,605.00,9548.85\n\
     T,6,upname\x1f1,1709251200021,1\n";
 
-// Checks that a batch ended with the fault `wanted`, and that the bytes `told`, which the batch
-// wrote, are exactly the lines `lines`. Fails with `name` if not.
-fn expect_batch_fault(
-    name: &str,
-    ended: Result<Counts, BatchFault>,
-    wanted: BatchFault,
-    told: &[u8],
-    lines: &str,
-) -> Result<(), Fail> {
-    if ended == Err(wanted) && told == lines.as_bytes() {
-        Ok(())
-    } else {
-        Err(Fail::new(format_args!("{name}: the fault, or the lines")))
+// The batch of `ROWS`, and all its lines on a desk after the batch `SET`.
+#[derive(Clone, Copy)]
+struct Whole<'a> {
+    batch: &'a str,
+    lines: &'a str,
+}
+
+impl<'a> Whole<'a> {
+    // Returns the number of rows that are decided if the reader fails after `len` bytes: a row is
+    // decided if the record after it was read.
+    fn rows_before_read_fault(self, len: usize) -> usize {
+        match self.batch.get(..len) {
+            Some(before) => before.split('\n').count().saturating_sub(3),
+            None => 0,
+        }
+    }
+
+    fn first_lines(self, rows: usize) -> &'a str {
+        let mut end = 0usize;
+        for line in self.lines.lines().take(rows) {
+            end = end.saturating_add(line.len()).saturating_add(1);
+        }
+        self.lines.get(..end).unwrap_or("")
+    }
+
+    // Returns the fault of the batch that `cut` fails after `at` bytes, and what it has written.
+    fn fault_of_cut(self, cut: Cut, at: usize) -> (usize, FaultKind, &'a str) {
+        match cut {
+            Cut::Reader(_) => {
+                let rows = self.rows_before_read_fault(at);
+                (rows, FaultKind::Read, self.first_lines(rows))
+            }
+            Cut::Writer(_) => {
+                let lines = self.lines.get(..at).unwrap_or("");
+                (lines.split('\n').count().min(6), FaultKind::Write, lines)
+            }
+        }
     }
 }
 
-// Executes `batch`, the whole batch of `ROWS`, on a desk that has accepted its first `booked` rows
-// before. Checks that the batch completes, that these rows have their stored replies and the others
-// are accepted (`all_lines_of_retry`), and that the tables after the batch are `TABLES`, as after
-// one execution, and the reference tables as after the batch `SET`. Fails with `name` if not, and
-// without it if the batch writes bytes that are not UTF-8 or if the tables cannot be read. Fails
-// also if memory runs out, with or without `name`.
-fn expect_completed_batch<S: Alter + Drop>(
+// Executes the batch on a desk, with a reader or a writer that fails once, as `cut` says, after
+// `at` bytes. Returns the bytes that the batch wrote, and the counts of its rows or the fault.
+fn run_cut_batch<S: Alter>(
     alloc: Global,
-    mut desk: Desk<S>,
-    name: &str,
-    batch: &str,
+    desk: &mut Desk<S>,
+    batch: &[u8],
+    cut: Cut,
+    at: usize,
+) -> (Vec<u8>, Result<Counts, BatchFault>) {
+    match cut {
+        Cut::Reader(kind) => {
+            let mut told = Vec::new(alloc);
+            let reader = Failing::reader_failing_once(batch, at, kind);
+            let ended = run_batch_of_reader(alloc, reader, &mut told, desk);
+            (told, ended)
+        }
+        Cut::Writer(kind) => {
+            let mut writer = Narrow::new(alloc, at, kind);
+            let ended = run_batch_of_reader(alloc, batch, &mut writer, desk);
+            (writer.taken, ended)
+        }
+    }
+}
+
+// Executes the batch, cut after `at` bytes, on a desk after the batch `SET`. Checks that it fails
+// with the fault of the cut (`Whole::fault_of_cut`) after exactly the lines before. Returns the
+// number of the rows that are decided.
+fn expect_fault_of_cut<S: Alter>(
+    alloc: Global,
+    desk: &mut Desk<S>,
+    whole: Whole<'_>,
+    cut: Cut,
+    at: usize,
+) -> Result<usize, Fail> {
+    let (rows, kind, lines) = whole.fault_of_cut(cut, at);
+    let wanted = BatchFault {
+        rows: rows as u64,
+        kind,
+    };
+    let (told, ended) = run_cut_batch(alloc, desk, whole.batch.as_bytes(), cut, at);
+    expect(
+        ended == Err(wanted) && told.as_slice() == lines.as_bytes(),
+        format_args!("{}: the fault, or the lines", cut.case_at(at)),
+    )?;
+    Ok(rows)
+}
+
+// Executes the whole batch on a desk that has accepted its first `booked` rows before. Checks that
+// the batch completes, and that these rows have their stored replies and the others are accepted
+// (`all_lines_of_retry`).
+fn expect_lines_of_retry<S: Alter>(
+    alloc: Global,
+    desk: &mut Desk<S>,
+    case: Case<'_>,
+    batch: &[u8],
     booked: usize,
 ) -> Result<(), Fail> {
     let lines = all_lines_of_retry(alloc, booked)?;
-    expect_batch_result(
-        alloc,
-        &mut desk,
-        name,
-        Step {
-            batch: batch.as_bytes(),
-            lines: lines.as_str(),
-        },
-    )?;
-    expect_all_tables(alloc, desk.into_store(), name, TABLES)
+    let step = Step {
+        batch,
+        lines: lines.as_str(),
+    };
+    expect_batch_result(alloc, desk, case, step)
 }
 
-// Executes `batch`, the batch of `ROWS`, on a new desk in the database of a connection, after the
-// batch `SET`, with a reader that fails once with the error `kind` after `len` bytes, and then
-// retries the batch. Checks that the first run fails with `Read` and the number of the decided
-// rows, after exactly the lines of these rows, and that the retry completes
-// (`expect_completed_batch`): a row is decided if the record after it was read. Fails if not,
-// without a connection, if the batch has no position `len`, if the desk cannot be set up, or if
-// memory runs out.
-fn expect_batch_read_fault<S: Alter + Drop>(
+// Executes the batch, cut after `at` bytes, on a new desk in the database of a connection, after
+// the batch `SET`, and retries it. Checks the fault, that the retry completes with the stored
+// replies to the decided rows, and that the tables are those after one execution.
+fn expect_retry_after_cut<S: Alter + Drop>(
     alloc: Global,
     conn: Option<Connection<S>>,
-    batch: &str,
-    len: usize,
-    kind: ErrorKind,
+    whole: Whole<'_>,
+    cut: Cut,
+    at: usize,
 ) -> Result<(), Fail> {
-    let name = format!(in alloc; "the reader fails after {len}")?;
-    let before = batch.get(..len).ok_or("no such place")?;
-    let settled = before.split('\n').count().saturating_sub(3);
-    let lines = first_lines_of_batch(alloc, settled)?;
-    let mut told = Vec::new(alloc);
+    let case = cut.case_at(at);
     let mut desk = desk_with_reference_data(alloc, conn)?;
-    let reader = Failing::reader_failing_once(batch.as_bytes(), len, kind);
-    let ended = run_batch_of_reader(alloc, reader, &mut told, &mut desk);
-    expect_completed_batch(alloc, desk, name.as_str(), batch, settled)?;
-    let wanted = BatchFault {
-        rows: settled as u64,
-        kind: FaultKind::Read,
-    };
-    expect_batch_fault(name.as_str(), ended, wanted, &told, lines.as_str())
+    let rows = expect_fault_of_cut(alloc, &mut desk, whole, cut, at)?;
+    expect_lines_of_retry(alloc, &mut desk, case, whole.batch.as_bytes(), rows)?;
+    expect_all_tables(alloc, &mut connection_of_desk(desk), case, TABLES)
 }
 
-// Checks `expect_batch_read_fault` for each byte of a batch, and for a reader that fails and one
-// that is interrupted, each time on a new desk in memory.
-fn expect_batch_read_faults(alloc: Global, batch: &str) -> Result<(), Fail> {
-    for len in 0..batch.len() {
-        for kind in [ErrorKind::Other, ErrorKind::Interrupted] {
-            expect_batch_read_fault(alloc, open_in_memory(alloc), batch, len, kind)?;
+// Checks `expect_retry_after_cut` for each number of bytes below `places` and each of `cuts`, each
+// time on a new desk in memory.
+fn expect_retries(
+    alloc: Global,
+    whole: Whole<'_>,
+    cuts: &[Cut],
+    places: usize,
+) -> Result<(), Fail> {
+    for at in 0..places {
+        for cut in cuts {
+            expect_retry_after_cut(alloc, open_in_memory(alloc), whole, *cut, at)?;
         }
     }
     Ok(())
@@ -131,56 +187,32 @@ fn expect_batch_read_faults(alloc: Global, batch: &str) -> Result<(), Fail> {
 /// fails with `Read` after exactly the lines of the decided rows, and that its retry completes.
 /// Fails if not, and if memory runs out.
 pub fn a_batch_can_be_retried_after_a_read_fault(alloc: Global) -> Result<(), Fail> {
-    let batch = format_batch(alloc, &ROWS)?;
-    expect_batch_read_faults(alloc, batch.as_str())
-}
-
-// Executes `batch`, the batch of `ROWS`, on a new desk in the database of a connection, after the
-// batch `SET`, with a writer that has room for `room` bytes, and then fails once with the error
-// `fault`, or, if `fault` is `None`, once accepts no byte, and then retries the batch. `lines` must
-// be all lines of the batch. Checks that the first run fails with `Write` and the number of the
-// decided rows, after exactly the first `room` bytes of `lines`, and that the retry completes
-// (`expect_completed_batch`): a row whose line was not written remains committed. Fails if not,
-// without a connection, if `lines` has no position `room`, if the desk cannot be set up, or if
-// memory runs out.
-fn expect_batch_write_fault<S: Alter + Drop>(
-    alloc: Global,
-    conn: Option<Connection<S>>,
-    batch: &str,
-    lines: &str,
-    room: usize,
-    fault: Option<ErrorKind>,
-) -> Result<(), Fail> {
-    let name = format!(in alloc; "the writer fails after {room}")?;
-    let wanted = lines.get(..room).ok_or("no such place")?;
-    let settled = wanted.split('\n').count().min(6);
-    let mut writer = Narrow::new(alloc, room, fault);
-    let mut desk = desk_with_reference_data(alloc, conn)?;
-    let ended = run_batch_of_reader(alloc, batch.as_bytes(), &mut writer, &mut desk);
-    expect_completed_batch(alloc, desk, name.as_str(), batch, settled)?;
-    let fault = BatchFault {
-        rows: settled as u64,
-        kind: FaultKind::Write,
+    let cuts = [
+        Cut::Reader(ErrorKind::Other),
+        Cut::Reader(ErrorKind::Interrupted),
+    ];
+    let (batch, lines) = (format_batch(alloc, &ROWS)?, all_lines_of_retry(alloc, 0)?);
+    let whole = Whole {
+        batch: batch.as_str(),
+        lines: lines.as_str(),
     };
-    expect_batch_fault(name.as_str(), ended, fault, &writer.taken, wanted)
-}
-
-// Checks `expect_batch_write_fault` for each byte of the lines of a batch, and for a writer that
-// accepts no byte, one that fails and one that is interrupted, each time on a new desk in memory.
-fn expect_batch_write_faults(alloc: Global, batch: &str, lines: &str) -> Result<(), Fail> {
-    for room in 0..lines.len() {
-        for fault in [None, Some(ErrorKind::Other), Some(ErrorKind::Interrupted)] {
-            expect_batch_write_fault(alloc, open_in_memory(alloc), batch, lines, room, fault)?;
-        }
-    }
-    Ok(())
+    expect_retries(alloc, whole, &cuts, batch.len())
 }
 
 /// Checks, for each byte of the lines of a batch at which the writer fails, is interrupted or
 /// accepts no byte, that the batch fails with `Write`, that exactly the bytes before are written,
-/// and that its retry completes. Fails if not, and if memory runs out.
+/// and that its retry completes: a row whose line was not written remains committed. Fails if not,
+/// and if memory runs out.
 pub fn a_batch_can_be_retried_after_a_write_fault(alloc: Global) -> Result<(), Fail> {
-    let batch = format_batch(alloc, &ROWS)?;
-    let lines = all_lines_of_retry(alloc, 0)?;
-    expect_batch_write_faults(alloc, batch.as_str(), lines.as_str())
+    let cuts = [
+        Cut::Writer(None),
+        Cut::Writer(Some(ErrorKind::Other)),
+        Cut::Writer(Some(ErrorKind::Interrupted)),
+    ];
+    let (batch, lines) = (format_batch(alloc, &ROWS)?, all_lines_of_retry(alloc, 0)?);
+    let whole = Whole {
+        batch: batch.as_str(),
+        lines: lines.as_str(),
+    };
+    expect_retries(alloc, whole, &cuts, lines.len())
 }

@@ -1,17 +1,19 @@
 //! Tests of desks in memory that no transcript of `crates/brk_tests_cases/data/` can show: readers
-//! and writers that fail, streams of requests that come in pieces or end early, peers in memory,
-//! the creation of stores, runs of calls, walks, and the number of rows that a sale reads. The
-//! command `test` of a transcript runs one of them. A test fails if what it checks is not so, and
-//! also if a desk for it cannot be set up or memory runs out.
+//! and writers that fail, streams of requests that come in pieces, peers in memory, the creation of
+//! stores, runs of calls, walks, the number of rows that a sale reads, and the public items of the
+//! crates over a database that no other test uses. The command `test` of a transcript runs one of
+//! them. A test fails if what it checks is not so, and also if a desk for it cannot be set up or
+//! memory runs out.
 #![tactic(auto)]
 
+mod calls;
 mod cuts;
 mod http;
 mod made;
-mod row_calls;
 mod rows_read;
-mod runs;
 mod statements;
+mod store;
+mod walks;
 
 use std::alloc::Global;
 use std::test::Fail;
@@ -24,7 +26,6 @@ pub fn run_test(alloc: Global, name: &str) -> Option<Result<(), Fail>> {
             cuts::a_batch_can_be_retried_after_a_read_fault(alloc),
         "a_batch_can_be_retried_after_a_write_fault" =>
             cuts::a_batch_can_be_retried_after_a_write_fault(alloc),
-        "a_cut_request_gets_the_reply_400" => http::cuts::a_cut_request_gets_the_reply_400(alloc),
         "a_stream_can_be_retried_after_a_read_fault" =>
             http::cuts::a_stream_can_be_retried_after_a_read_fault(alloc),
         "a_stream_can_be_retried_after_a_write_fault" =>
@@ -41,15 +42,11 @@ pub fn run_test(alloc: Global, name: &str) -> Option<Result<(), Fail>> {
         "a_sale_reads_only_the_pages_it_needs" => rows_read::a_sale_reads_only_the_pages_it_needs(
             alloc,
         ),
-        "a_run_continues_after_a_refusal" => runs::a_run_continues_after_a_refusal(alloc),
-        "a_run_repeats_the_stored_reply" => runs::a_run_repeats_the_stored_reply(alloc),
-        "a_run_answers_queries" => runs::a_run_answers_queries(alloc),
-        "a_batch_equals_one_run_of_its_calls" => runs::a_batch_equals_one_run_of_its_calls(alloc),
+        "a_run_has_an_outcome_for_each_call" => calls::a_run_has_an_outcome_for_each_call(alloc),
         "a_failed_write_ends_the_statement" => statements::a_failed_write_ends_the_statement(alloc),
-        "walks_cash_rows_in_order_of_stamps" => statements::walks_cash_rows_in_order_of_stamps(
-            alloc,
-        ),
-        "walks_lots_in_order_of_symbols" => statements::walks_lots_in_order_of_symbols(alloc),
+        "walks_pass_rows_in_order" => walks::walks_pass_rows_in_order(alloc),
+        "surface_of_brk_desk" => calls::surface_of_brk_desk(alloc),
+        "surface_of_brk_store" => store::surface_of_brk_store(alloc),
         _ => return None,
     };
     Some(tested)

@@ -4,23 +4,20 @@
 //! call is read by one proof alone.
 
 use crate::statements::Asked;
-use crate::worked::{FIRST_MOMENT, SET, SET_LINES};
+use crate::worked::{FIRST_MOMENT, SET, SET_LINES, format_purchases};
 use brk_desk::Desk;
 use brk_http::{ServeFault, serve_stream};
 use brk_import::{BatchFault, Clock, Counts, run_batch};
 use brk_money::{Fault, Stamp};
-use brk_report::{ReportFault, statement};
+use brk_report::{StatementFault, statement};
 use brk_store::Store;
+pub use brk_tests_unit::expect::expect;
 use sqlite::{Alter, Connection, MemStore};
 use std::alloc::Global;
-use std::fmt::Display;
+use std::fmt;
+use std::fmt::{Display, Formatter};
 use std::io::{Read, Write};
 use std::test::Fail;
-
-/// Checks that `holds` is true. Fails with the text of `why` if not.
-pub fn expect<D: Display + Drop>(holds: bool, why: D) -> Result<(), Fail> {
-    if holds { Ok(()) } else { Err(Fail::new(why)) }
-}
 
 /// Returns the connection `conn`. Fails if it is `None`.
 pub fn expect_connection<S: Alter + Drop>(
@@ -113,26 +110,45 @@ pub fn write_statement<W: Write, S: Alter>(
     asked: Asked,
     writer: &mut W,
     desk: &mut Desk<S>,
-) -> Result<(), ReportFault> {
+) -> Result<(), StatementFault> {
     let Asked { account, from, to } = asked;
     statement(alloc, desk, account, from, to, writer)
 }
 
-/// Checks that the text `told` has exactly the lines `wanted`. Fails with `name`, `what` and the
-/// number, counted from 1, of the first line that differs, and with `name` and `what` if no line
+/// A case of a test: what happens, and the number of the place at which it does.
+#[derive(Clone, Copy)]
+pub struct Case<'a> {
+    pub what: &'a str,
+    pub at: usize,
+}
+
+impl Display for Case<'_> {
+    /// Writes, for example, `the reader fails after 57`.
+    fn fmt<W: fmt::Write>(&self, f: &mut Formatter<W>) -> fmt::Result {
+        write!(f, "{} {}", self.what, self.at)
+    }
+}
+
+/// Checks that the text `told` has exactly the lines `wanted`. Fails with `case`, `what` and the
+/// number, counted from 1, of the first line that differs, and with `case` and `what` if no line
 /// differs but the texts do, for example because lines are missing or there are more.
-pub(crate) fn expect_lines(name: &str, what: &str, told: &str, wanted: &str) -> Result<(), Fail> {
+pub(crate) fn expect_lines(
+    case: Case<'_>,
+    what: &str,
+    told: &str,
+    wanted: &str,
+) -> Result<(), Fail> {
     let mut at = 0u64;
     for (line, want) in told.lines().zip(wanted.lines()) {
         at = at.saturating_add(1);
         if line != want {
-            return Err(Fail::new(format_args!("{name}: line {at} of the {what}")));
+            return Err(Fail::new(format_args!("{case}: line {at} of the {what}")));
         }
     }
     if told == wanted {
         Ok(())
     } else {
-        Err(Fail::new(format_args!("{name}: {what} that are missing, or more of them")))
+        Err(Fail::new(format_args!("{case}: {what} that are missing, or more of them")))
     }
 }
 
@@ -143,13 +159,18 @@ pub struct Step<'a> {
     pub lines: &'a str,
 }
 
-/// Returns a new desk in the database of a connection. Its tables have no rows, except for one row
-/// of the table DESK. Fails without a connection, and if the desk cannot be created.
-pub fn new_desk<S: Alter + Drop>(conn: Option<Connection<S>>) -> Result<Desk<S>, Fail> {
+/// Returns a new store in the database of a connection. Its tables have no rows, except for one row
+/// of the table DESK. Fails without a connection, and if the store cannot be created.
+pub fn new_store<S: Alter + Drop>(conn: Option<Connection<S>>) -> Result<Store<S>, Fail> {
     match create_store(expect_connection(conn)?) {
-        Ok(store) => Ok(Desk::new(store)),
+        Ok(store) => Ok(store),
         Err(_) => Err("no store")?,
     }
+}
+
+/// Returns a desk over a new store in the database of a connection (`new_store`).
+pub fn new_desk<S: Alter + Drop>(conn: Option<Connection<S>>) -> Result<Desk<S>, Fail> {
+    Ok(Desk::new(new_store(conn)?))
 }
 
 /// Returns a new desk in the database of a connection after the batch `SET`, which adds a broker, a
@@ -160,12 +181,22 @@ pub fn desk_with_reference_data<S: Alter + Drop>(
     alloc: Global,
     conn: Option<Connection<S>>,
 ) -> Result<Desk<S>, Fail> {
-    let mut desk = new_desk(conn)?;
     let set = Step {
         batch: SET,
         lines: SET_LINES,
     };
-    expect_batch_result(alloc, &mut desk, "set", set)?;
+    desk_after_step(alloc, new_desk(conn)?, "set", set)
+}
+
+/// Returns a desk after the batch of `step`. Fails as `expect_batch_result` does, with the case
+/// `what` at 0.
+pub fn desk_after_step<S: Alter + Drop>(
+    alloc: Global,
+    mut desk: Desk<S>,
+    what: &str,
+    step: Step<'_>,
+) -> Result<Desk<S>, Fail> {
+    expect_batch_result(alloc, &mut desk, Case { what, at: 0 }, step)?;
     Ok(desk)
 }
 
@@ -181,46 +212,61 @@ pub fn run_batch_at_desk<S: Alter>(
     (lines, ended)
 }
 
-// Checks that the bytes `told` that a batch wrote are exactly the lines `wanted`. Fails with `name`
-// and the number, counted from 1, of the first line that differs, and with `name` if no line
-// differs but the texts do. Fails without `name` if the bytes are not UTF-8.
-fn expect_batch_lines(name: &str, told: &[u8], wanted: &str) -> Result<(), Fail> {
+// Checks that the bytes `told` that a batch wrote are exactly the lines `wanted` (`expect_lines`).
+// Fails without `case` if the bytes are not UTF-8.
+fn expect_batch_lines(case: Case<'_>, told: &[u8], wanted: &str) -> Result<(), Fail> {
     match str::from_utf8(told) {
-        Ok(told) => expect_lines(name, "lines", told, wanted),
+        Ok(told) => expect_lines(case, "lines", told, wanted),
         Err(_) => Err("no text")?,
     }
 }
 
 // Checks that a batch completed, and that the lines `lines` end with the end line of its counts.
-// Fails with `name` if not, and without it if memory runs out.
+// Fails with `case` if not, and without it if memory runs out.
 fn expect_batch_counts(
     alloc: Global,
-    name: &str,
+    case: Case<'_>,
     ended: Result<Counts, BatchFault>,
     lines: &str,
 ) -> Result<(), Fail> {
     let Ok(Counts { ok, again, no }) = ended else {
-        return Err(Fail::new(format_args!("{name}: a fault")));
+        return Err(Fail::new(format_args!("{case}: a fault")));
     };
     let last = format!(in alloc; "end,{ok},{again},{no}\n")?;
-    if lines.ends_with(last.as_str()) {
-        Ok(())
-    } else {
-        Err(Fail::new(format_args!("{name}: the counts")))
-    }
+    expect(
+        lines.ends_with(last.as_str()),
+        format_args!("{case}: the counts"),
+    )
 }
 
 /// Executes the batch of `step` on a desk at 2024-03-01 00:00 UTC, and checks that the batch
 /// completes, that it writes exactly the lines of `step`, and that these lines end with the end
-/// line of its counts. Fails with `name` if not, and without it if the batch writes bytes that are
-/// not UTF-8. Fails also if memory runs out, with or without `name`.
+/// line of its counts. Fails with `case` if not, and without it if the batch writes bytes that are
+/// not UTF-8. Fails also if memory runs out, with or without `case`.
 pub fn expect_batch_result<S: Alter>(
     alloc: Global,
     desk: &mut Desk<S>,
-    name: &str,
+    case: Case<'_>,
     step: Step<'_>,
 ) -> Result<(), Fail> {
     let (lines, ended) = run_batch_at_desk(alloc, desk, step.batch);
-    expect_batch_lines(name, &lines, step.lines)?;
-    expect_batch_counts(alloc, name, ended, step.lines)
+    expect_batch_lines(case, &lines, step.lines)?;
+    expect_batch_counts(alloc, case, ended, step.lines)
+}
+
+/// Adds an account to a desk after the batch `SET`, and buys one share of ABC at 10.00 for it
+/// `purchases` times, with the trade ids from `first` on. Fails if a row is not accepted, or if
+/// memory runs out.
+pub fn buy_for_new_account<S: Alter>(
+    alloc: Global,
+    desk: &mut Desk<S>,
+    account: u64,
+    first: u64,
+    purchases: u64,
+) -> Result<(), Fail> {
+    let batch = format_purchases(alloc, account, first, purchases)?;
+    match run_batch_at_desk(alloc, desk, batch.as_bytes()).1 {
+        Ok(counts) if counts.no == 0 => Ok(()),
+        _ => Err("the purchases")?,
+    }
 }

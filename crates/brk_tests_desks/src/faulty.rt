@@ -1,5 +1,6 @@
 //! Readers that return their bytes in pieces, and readers and writers that fail once.
 
+use crate::desks::Case;
 use std::alloc::Global;
 use std::io;
 use std::io::{Error, ErrorKind, Read, Write};
@@ -102,5 +103,25 @@ impl Write for Narrow {
     /// Does nothing.
     fn flush(&mut self) -> io::Result<()> {
         Ok(())
+    }
+}
+
+/// What fails once at a place of a batch or a stream.
+#[derive(Clone, Copy)]
+pub enum Cut {
+    /// The reader, with an error of this kind.
+    Reader(ErrorKind),
+    /// The writer, with an error of this kind, or because it accepts no byte (`None`).
+    Writer(Option<ErrorKind>),
+}
+
+impl Cut {
+    /// Returns the case of a failure after the first `at` bytes.
+    pub fn case_at(self, at: usize) -> Case<'static> {
+        let what = match self {
+            Cut::Reader(_) => "the reader fails after",
+            Cut::Writer(_) => "the writer fails after",
+        };
+        Case { what, at }
     }
 }

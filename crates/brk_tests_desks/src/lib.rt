@@ -10,4 +10,5 @@ pub mod statements;
 pub mod tables;
 pub mod worked;
 
-pub use desks::{Still, expect, new_desk, open_in_memory};
+pub use brk_tests_unit::expect::expect;
+pub use desks::{Still, new_desk, open_in_memory};

@@ -1,6 +1,6 @@
 //! A batch for tests that interrupt it, and its lines, also those of its retry.
 
-use crate::worked::{append_reply_lines, lines_of_retry};
+use crate::worked::lines_of_retry;
 use std::alloc::Global;
 use std::test::Fail;
 
@@ -24,16 +24,6 @@ const LINES: [&str; 6] = [
     "1709251200020,6.05,20.00,573.95,2024-03-03,505.00,605.00,9548.85",
     "1709251200021,1",
 ];
-
-/// Returns the lines of the first `rows` rows of the batch of `ROWS`, or of all six if `rows` is
-/// greater, all accepted, on a desk after the batch `SET`, without an end line. Fails only if
-/// memory runs out.
-pub fn first_lines_of_batch(alloc: Global, rows: usize) -> Result<String, Fail> {
-    let (first, _) = LINES.split_at(rows.min(6));
-    let mut told = String::new(alloc);
-    append_reply_lines(&mut told, 1, "ok", first)?;
-    Ok(told)
-}
 
 /// Returns all lines of the batch of `ROWS` on a desk that has accepted its first `booked` rows, or
 /// all six if `booked` is greater, after the batch `SET`: the stored replies to these rows, the

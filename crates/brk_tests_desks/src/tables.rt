@@ -1,8 +1,7 @@
 //! The rows of the tables of a desk as text. A function that returns `None` may have appended a
 //! part.
 
-use crate::desks::expect_lines;
-use brk_store::Store;
+use crate::desks::{Case, expect_lines};
 use sqlite::types::ValueRef;
 use sqlite::{Alter, Connection, Row};
 use std::alloc::Global;
@@ -126,35 +125,33 @@ pub fn read_all_tables<S: Alter>(alloc: Global, conn: &mut Connection<S>) -> Opt
 }
 
 // Checks that the names and the rows of these tables are exactly the lines `wanted`
-// (`append_tables`). Fails with `name` and the number of the first line that differs, with `name`
-// if no line differs but the texts do, and if the tables cannot be read or printed or memory runs
-// out.
+// (`append_tables`). Fails as `expect_lines` does, and if the tables cannot be read or printed or
+// memory runs out.
 fn expect_rows_of_tables<S: Alter>(
     alloc: Global,
     conn: &mut Connection<S>,
-    name: &str,
+    case: Case<'_>,
     tables: &[&str],
     wanted: &str,
 ) -> Result<(), Fail> {
     let mut told = String::new(alloc);
     match append_tables(alloc, &mut told, conn, tables) {
-        Some(()) => expect_lines(name, "tables", told.as_str(), wanted),
+        Some(()) => expect_lines(case, "tables", told.as_str(), wanted),
         None => Err("tables that cannot be read")?,
     }
 }
 
-/// Checks all tables of a store: the tables of `REFERENCE` equal those after the batch `SET`, and
+/// Checks all tables of a desk: the tables of `REFERENCE` equal those after the batch `SET`, and
 /// the names and rows of the tables of `TRADING` are exactly the lines `wanted`. The stored
-/// requests of `SET` are among the former, all others among the latter. Fails with `name` and the
-/// number of the first line that differs, with `name` if no line differs but the texts do, and if
+/// requests of `SET` are among the former, all others among the latter. Fails with `case` and the
+/// number of the first line that differs, with `case` if no line differs but the texts do, and if
 /// the tables cannot be read or printed or memory runs out.
-pub fn expect_all_tables<S: Alter + Drop>(
+pub fn expect_all_tables<S: Alter>(
     alloc: Global,
-    store: Store<S>,
-    name: &str,
+    conn: &mut Connection<S>,
+    case: Case<'_>,
     wanted: &str,
 ) -> Result<(), Fail> {
-    let mut conn = store.into_conn();
-    expect_rows_of_tables(alloc, &mut conn, name, &REFERENCE, SET_TABLES)?;
-    expect_rows_of_tables(alloc, &mut conn, name, &TRADING, wanted)
+    expect_rows_of_tables(alloc, conn, case, &REFERENCE, SET_TABLES)?;
+    expect_rows_of_tables(alloc, conn, case, &TRADING, wanted)
 }

@@ -112,6 +112,24 @@ pub fn append_end_record(batch: &mut String, rows: u64) -> Result<(), Fail> {
     Ok(())
 }
 
+/// Returns the text of a batch that adds an account, and buys one share of ABC at 10.00 for it
+/// `purchases` times, with the trade ids from `first` on. Fails only if memory runs out.
+pub(crate) fn format_purchases(
+    alloc: Global,
+    account: u64,
+    first: u64,
+    purchases: u64,
+) -> Result<String, Fail> {
+    let mut batch = format!(in alloc;
+        "batch,P{account}\naccount,{account},10,1,Side,1,10000.00\n"
+    )?;
+    for n in 0..purchases {
+        append_purchase(&mut batch, account, 1, first.saturating_add(n))?;
+    }
+    append_end_record(&mut batch, purchases.saturating_mul(2).saturating_add(1))?;
+    Ok(batch)
+}
+
 /// Returns the text of a batch with the name T and these rows. Fails only if memory runs out.
 pub fn format_batch(alloc: Global, rows: &[&str]) -> Result<String, Fail> {
     let mut batch = String::from_str(alloc, "batch,T\n")?;
@@ -123,9 +141,9 @@ pub fn format_batch(alloc: Global, rows: &[&str]) -> Result<String, Fail> {
     Ok(batch)
 }
 
-/// Appends a line for each reply in `lines`, in the form in which a batch writes it: the number of
-/// its row, counted from `first`, the word `word`, and the reply. Fails only if memory runs out.
-pub(crate) fn append_reply_lines(
+// Appends a line for each reply in `lines`, in the form in which a batch writes it: the number of
+// its row, counted from `first`, the word `word`, and the reply. Fails only if memory runs out.
+fn append_reply_lines(
     told: &mut String,
     first: u64,
     word: &str,

@@ -1,7 +1,7 @@
 //! Tests of desks in files in memory: crashes, disks that fail within a statement, a stream or a
-//! service over sockets, and the calls of a file that a sale makes. The command `test` of a
-//! transcript runs one of them. A test fails if what it checks is not so, and also if a desk for it
-//! cannot be set up or memory runs out.
+//! service over sockets, and the calls of a file that a sale makes; and of streams over sockets that
+//! break off. The command `test` of a transcript runs one of them. A test fails if what it checks is
+//! not so, and also if a desk for it cannot be set up or memory runs out.
 #![tactic(auto)]
 
 mod crashes;
@@ -9,6 +9,7 @@ mod file_calls;
 mod jobs;
 mod machine;
 mod served;
+mod sockets;
 mod statements;
 mod streams;
 
@@ -37,6 +38,7 @@ pub fn run_test(rt: &HostRuntime, name: &str) -> Option<Result<(), Fail>> {
             statements::a_failing_disk_leaves_whole_statement_lines(alloc),
         "a_served_desk_recovers_from_disk_faults" =>
             served::a_served_desk_recovers_from_disk_faults(rt),
+        "socket_streams_share_one_desk" => sockets::socket_streams_share_one_desk(rt),
         _ => return None,
     };
     Some(tested)

@@ -1,5 +1,5 @@
 //! Tests of those public items of the crates without a database that no other crate of tests uses
-//! (brk_tests_surface has those of the other crates). Each item is imported under its path, each
+//! (brk_tests has those of the other crates). Each item is imported under its path, each
 //! function is called once with a known answer, and each type is constructed or matched, so a name
 //! that changes fails to compile. The command `test` of a transcript runs one of them.
 #![tactic(auto)]

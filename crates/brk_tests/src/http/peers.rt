@@ -4,31 +4,22 @@ use brk_desk::Desk;
 use brk_http::{
     AcceptFault, ListenFault, Listener, Peer, ServeFault, StreamServer, serve_listener,
 };
-use brk_tests_desks::desks::desk_with_reference_data;
-use brk_tests_desks::requests::{WantedReply, format_post_request, format_wanted_reply};
-use brk_tests_desks::{Still, expect, open_in_memory};
+use brk_tests_desks::desks::{Still, desk_with_reference_data, open_in_memory};
+use brk_tests_unit::expect::expect;
 use sqlite::{Alter, Connection};
 use std::alloc::Global;
 use std::test::Fail;
 
-// The target and the body of a purchase, and the wanted reply on a desk after the batch `SET`.
-const ORDER: (&str, &str, WantedReply) = (
-    "/rows/T/1",
-    "[\"order\",\"100\",\"TMB\",\"ABC\",\"100\",\"\",\"cash\",\"fifo\",\"Ann\",\"Lee\",\"T10\"]",
-    WantedReply::Open(
-        "200 OK",
-        "{\"ok\":[\"1709251200016\",\"1\",\"SBMT\",\"10.00\",\"0.00\",\"0.00\",\"0.00\",\"10.00\",\"5.00\",\"10000.00\"]}",
-    ),
+// A purchase, and the reply on a desk after the batch `SET`.
+const ORDER: (&str, &str) = (
+    "POST /rows/T/1 HTTP/1.1\r\nHost: desk\r\nContent-Length: 68\r\n\r\n[\"order\",\"100\",\"TMB\",\"ABC\",\"100\",\"\",\"cash\",\"fifo\",\"Ann\",\"Lee\",\"T10\"]",
+    "HTTP/1.1 200 OK\r\nContent-Type: application/json\r\nContent-Length: 90\r\n\r\n{\"ok\":[\"1709251200016\",\"1\",\"SBMT\",\"10.00\",\"0.00\",\"0.00\",\"0.00\",\"10.00\",\"5.00\",\"10000.00\"]}",
 );
 
-// The target and the body of a query for the submitted trades, and the wanted reply after `ORDER`.
-const QUERY: (&str, &str, WantedReply) = (
-    "/ask/submitted",
-    "[]",
-    WantedReply::Open(
-        "200 OK",
-        "{\"view\":[[\"1\",\"TMB\",\"ABC\",\"100\",\"10.00\"]]}",
-    ),
+// A query for the submitted trades, and the reply after `ORDER`.
+const QUERY: (&str, &str) = (
+    "POST /ask/submitted HTTP/1.1\r\nHost: desk\r\nContent-Length: 2\r\n\r\n[]",
+    "HTTP/1.1 200 OK\r\nContent-Type: application/json\r\nContent-Length: 42\r\n\r\n{\"view\":[[\"1\",\"TMB\",\"ABC\",\"100\",\"10.00\"]]}",
 );
 
 // A peer that sends the bytes `sent`, and stores what it receives.
@@ -91,40 +82,40 @@ fn serve_at_first_timestamp<S: Alter>(
 fn expect_two_streams_served<S: Alter + Drop>(
     alloc: Global,
     conn: Option<Connection<S>>,
-    waiting: Vec<MemoryPeer<'_>>,
+    listener: &mut MemoryListener<'_>,
 ) -> Result<(), Fail> {
     let mut desk = desk_with_reference_data(alloc, conn)?;
-    let mut listener = MemoryListener { waiting };
-    let served = serve_at_first_timestamp(alloc, &mut listener, 2, &mut desk);
+    let served = serve_at_first_timestamp(alloc, listener, 2, &mut desk);
     expect(served == Ok(()), "two streams")?;
-    let served = serve_at_first_timestamp(alloc, &mut listener, 1, &mut desk);
+    let served = serve_at_first_timestamp(alloc, listener, 1, &mut desk);
     expect(served == Err(ListenFault::Net), "no stream")
 }
 
-fn expect_received(alloc: Global, received: &[u8], wanted: WantedReply) -> Result<(), Fail> {
-    let wanted = format_wanted_reply(alloc, wanted)?;
-    expect(received == wanted.as_bytes(), format_args!("{wanted:?}"))
+// Serves two peers, which send the requests and store what they receive.
+fn expect_peers_served(
+    alloc: Global,
+    first: &mut Vec<u8>,
+    second: &mut Vec<u8>,
+) -> Result<(), Fail> {
+    let mut waiting = Vec::new(alloc);
+    waiting.push(MemoryPeer {
+        sent: QUERY.0.as_bytes(),
+        received: second,
+    })?;
+    waiting.push(MemoryPeer {
+        sent: ORDER.0.as_bytes(),
+        received: first,
+    })?;
+    let mut listener = MemoryListener { waiting };
+    expect_two_streams_served(alloc, open_in_memory(alloc), &mut listener)
 }
 
 /// Checks that two peers are served in sequence on one desk in memory, that the one that sends an
 /// order and the one that sends a query each receive exactly their reply, and that serving fails
 /// with `Net` once no peer is left. Fails also if the desk cannot be set up or memory runs out.
 pub fn peers_in_memory_receive_their_replies(alloc: Global) -> Result<(), Fail> {
-    let (target, body, ordered) = ORDER;
-    let order = format_post_request(alloc, target, body)?;
-    let (target, body, shown) = QUERY;
-    let query = format_post_request(alloc, target, body)?;
     let (mut first, mut second) = (Vec::new(alloc), Vec::new(alloc));
-    let mut waiting = Vec::new(alloc);
-    waiting.push(MemoryPeer {
-        sent: query.as_bytes(),
-        received: &mut second,
-    })?;
-    waiting.push(MemoryPeer {
-        sent: order.as_bytes(),
-        received: &mut first,
-    })?;
-    expect_two_streams_served(alloc, open_in_memory(alloc), waiting)?;
-    expect_received(alloc, &first, ordered)?;
-    expect_received(alloc, &second, shown)
+    expect_peers_served(alloc, &mut first, &mut second)?;
+    expect(first.as_slice() == ORDER.1.as_bytes(), "the order")?;
+    expect(second.as_slice() == QUERY.1.as_bytes(), "the query")
 }

@@ -2,10 +2,9 @@
 
 use brk_desk::Desk;
 use brk_http::ServeFault;
-use brk_tests_desks::desks::{desk_with_reference_data, serve_stream_of_reader};
+use brk_tests_desks::desks::{desk_with_reference_data, open_in_memory, serve_stream_of_reader};
 use brk_tests_desks::faulty::Failing;
-use brk_tests_desks::requests::{WantedReply, format_wanted_reply};
-use brk_tests_desks::{expect, open_in_memory};
+use brk_tests_unit::expect::expect;
 use sqlite::{Alter, Connection};
 use std::alloc::{AllocError, Global};
 use std::test::Fail;
@@ -28,74 +27,32 @@ pub fn serve_stream_in_pieces<S: Alter>(
     (out, ended)
 }
 
-// Returns true if the bytes `out` that a stream wrote are exactly the wanted replies, and the
-// stream completed with their number. Fails only if memory runs out.
-fn has_wanted_replies(
-    alloc: Global,
-    out: &[u8],
-    ended: Result<u64, ServeFault>,
-    wanted: &[WantedReply],
-) -> Result<bool, AllocError> {
-    let mut bytes = String::new(alloc);
-    for told in wanted {
-        bytes.push_str(format_wanted_reply(alloc, *told)?.as_str())?;
-    }
-    Ok(out == bytes.as_bytes() && ended == Ok(wanted.len() as u64))
-}
-
-/// Serves a stream, whose bytes arrive in pieces of at most `size` bytes, on a new desk in the
-/// database of a connection after the batch `SET`. Returns the bytes that were written, and the
-/// number of replies or the fault. Fails without a connection, and if the desk cannot be set up
-/// (`desk_with_reference_data`).
-pub fn serve_stream_on_new_desk<S: Alter + Drop>(
-    alloc: Global,
-    conn: Option<Connection<S>>,
-    bytes: &[u8],
-    size: usize,
-) -> Result<(Vec<u8>, Result<u64, ServeFault>), Fail> {
-    let mut desk = desk_with_reference_data(alloc, conn)?;
-    Ok(serve_stream_in_pieces(alloc, &mut desk, bytes, size))
-}
-
-// Serves a stream in pieces of 4,096, of seven and of one byte, each time on a new desk in memory
-// after the batch `SET`, until the replies differ from the wanted ones. Returns true if the stream
-// has exactly the wanted replies each time. Fails if a desk cannot be set up or memory runs out.
-fn has_wanted_replies_when_split(
-    alloc: Global,
-    bytes: &[u8],
-    wanted: &[WantedReply],
-) -> Result<bool, Fail> {
-    for size in [4096usize, 7, 1] {
-        let (out, ended) = serve_stream_on_new_desk(alloc, open_in_memory(alloc), bytes, size)?;
-        if !has_wanted_replies(alloc, &out, ended, wanted)? {
-            return Ok(false);
-        }
-    }
-    Ok(true)
-}
-
 // The reply to a request that is too large.
-const LARGE: WantedReply = WantedReply::Last("413 Payload Too Large", "{\"error\":\"too large\"}");
+const LARGE: &str =
+    "HTTP/1.1 413 Payload Too Large\r\nContent-Type: application/json\r\nContent-Length: 21\r\nConnection: close\r\n\r\n{\"error\":\"too large\"}";
 
 // The reply to a malformed request, which ends its stream.
-const CLOSED: WantedReply = WantedReply::Last("400 Bad Request", "{\"error\":\"bad request\"}");
+const CLOSED: &str =
+    "HTTP/1.1 400 Bad Request\r\nContent-Type: application/json\r\nContent-Length: 23\r\nConnection: close\r\n\r\n{\"error\":\"bad request\"}";
 
 // The reply to a query for submitted trades on a desk without trades.
-const EMPTY: WantedReply = WantedReply::Open("200 OK", "{\"view\":[]}");
+const EMPTY: &str =
+    "HTTP/1.1 200 OK\r\nContent-Type: application/json\r\nContent-Length: 11\r\n\r\n{\"view\":[]}";
 
 // The reply to a query for submitted trades in a request of version 1.0, which ends its stream.
-const SAID: WantedReply = WantedReply::Last("200 OK", "{\"view\":[]}");
+const SAID: &str =
+    "HTTP/1.1 200 OK\r\nContent-Type: application/json\r\nContent-Length: 11\r\nConnection: close\r\n\r\n{\"view\":[]}";
 
 // Streams, each with its replies. Bytes after a reply that ends its stream are not read.
-const STREAMS: [(&str, &[WantedReply]); 7] = [
+const STREAMS: [(&str, &[&str]); 7] = [
     (
         "POST /rows/H/1 HTTP/1.1\r\nContent-Length: 19\r\n\r\n[\"broker\",\"2\",\"Cy\"]\
         POST /rows/H/1 HTTP/1.1\r\nContent-Length: 19\r\n\r\n[\"broker\",\"2\",\"Cy\"]\
         POST /rows HTTP/1.1\r\nContent-Length: 19\r\n\r\n[\"broker\",\"2\",\"Cy\"]",
         &[
-            WantedReply::Open("200 OK", "{\"ok\":[\"1709251200016\"]}"),
-            WantedReply::Open("200 OK", "{\"again\":[\"1709251200016\"]}"),
-            WantedReply::Open("409 Conflict", "{\"no\":[\"15\"]}"),
+            "HTTP/1.1 200 OK\r\nContent-Type: application/json\r\nContent-Length: 24\r\n\r\n{\"ok\":[\"1709251200016\"]}",
+            "HTTP/1.1 200 OK\r\nContent-Type: application/json\r\nContent-Length: 27\r\n\r\n{\"again\":[\"1709251200016\"]}",
+            "HTTP/1.1 409 Conflict\r\nContent-Type: application/json\r\nContent-Length: 13\r\n\r\n{\"no\":[\"15\"]}",
         ],
     ),
     ("\r\n", &[CLOSED]),
@@ -121,14 +78,50 @@ const STREAMS: [(&str, &[WantedReply]); 7] = [
     ),
 ];
 
+// Returns true if the bytes `out` are exactly these replies.
+fn are_replies(out: &[u8], wanted: &[&str]) -> bool {
+    let mut rest = out;
+    for reply in wanted {
+        match rest.strip_prefix(reply.as_bytes()) {
+            Some(after) => rest = after,
+            None => return false,
+        }
+    }
+    rest.is_empty()
+}
+
+// Serves a stream, whose bytes arrive in pieces of at most `size` bytes, on a new desk in the
+// database of a connection after the batch `SET`. Checks that it completes with exactly the wanted
+// replies.
+fn expect_replies_in_pieces<S: Alter + Drop>(
+    alloc: Global,
+    conn: Option<Connection<S>>,
+    bytes: &[u8],
+    wanted: &[&str],
+    size: usize,
+) -> Result<(), Fail> {
+    let mut desk = desk_with_reference_data(alloc, conn)?;
+    let (out, ended) = serve_stream_in_pieces(alloc, &mut desk, bytes, size);
+    expect(
+        are_replies(&out, wanted) && ended == Ok(wanted.len() as u64),
+        format_args!("{} bytes in pieces of {size}", bytes.len()),
+    )
+}
+
+// Checks that a stream has exactly the wanted replies (`expect_replies_in_pieces`) in pieces of
+// 4,096, of seven and of one byte, each time on a new desk in memory.
+fn expect_replies_when_split(alloc: Global, bytes: &[u8], wanted: &[&str]) -> Result<(), Fail> {
+    for size in [4096usize, 7, 1] {
+        expect_replies_in_pieces(alloc, open_in_memory(alloc), bytes, wanted, size)?;
+    }
+    Ok(())
+}
+
 /// Checks that each stream of `STREAMS` has its replies, whether its bytes arrive in pieces of
 /// 4,096, of seven or of one.
 pub fn streams_in_pieces_get_the_same_replies(alloc: Global) -> Result<(), Fail> {
     for (input, wanted) in STREAMS {
-        expect(
-            has_wanted_replies_when_split(alloc, input.as_bytes(), wanted)?,
-            format_args!("{input:?}"),
-        )?;
+        expect_replies_when_split(alloc, input.as_bytes(), wanted)?;
     }
     Ok(())
 }
@@ -152,10 +145,7 @@ pub fn a_head_has_at_most_16_384_bytes(alloc: Global) -> Result<(), Fail> {
     for (len, wanted) in [(16_384, EMPTY), (16_385, LARGE)] {
         let input = request_with_head_of_length(alloc, len)?;
         expect(input.len() == len + 2, "the length of the request")?;
-        expect(
-            has_wanted_replies_when_split(alloc, input.as_bytes(), &[wanted])?,
-            format_args!("a head of {len} bytes"),
-        )?;
+        expect_replies_when_split(alloc, input.as_bytes(), &[wanted])?;
     }
     Ok(())
 }
