@@ -126,14 +126,22 @@ const OUTCOMES: &str = "no,15\n\
     100,10000.00,0.00,\n\
     no,1\n";
 
+fn optional_key_of_row(alloc: Global, row: u64) -> Result<Option<Key>, Fail> {
+    if row == 0 {
+        return Ok(None);
+    }
+    Ok(Some(key_of_row(alloc, row)?))
+}
+
 fn call_of_row(alloc: Global, row: &str, key: u64) -> Result<(Stamp, Call), Fail> {
+    let key = optional_key_of_row(alloc, key)?;
     let command = command_of_row(alloc, row)?;
-    let key = if key > 0 {
-        Some(key_of_row(alloc, key)?)
-    } else {
-        None
-    };
     Ok((first_timestamp(), Call::Do(command, key)))
+}
+
+fn call_of_query(alloc: Global, view: &str, row: &str) -> Result<(Stamp, Call), Fail> {
+    let query = query_of_row(alloc, view, row)?;
+    Ok((first_timestamp(), Call::Ask(query)))
 }
 
 fn calls_of_run(alloc: Global) -> Result<Vec<(Stamp, Call)>, Fail> {
@@ -142,10 +150,7 @@ fn calls_of_run(alloc: Global) -> Result<Vec<(Stamp, Call)>, Fail> {
         calls.push(call_of_row(alloc, row, key)?)?;
     }
     for (view, row) in QUERIES {
-        calls.push((
-            first_timestamp(),
-            Call::Ask(query_of_row(alloc, view, row)?),
-        ))?;
+        calls.push(call_of_query(alloc, view, row)?)?;
     }
     Ok(calls)
 }
@@ -180,6 +185,12 @@ pub fn a_run_has_an_outcome_for_each_call(alloc: Global) -> Result<(), Fail> {
     expect_outcomes_of_run(alloc, open_in_memory(alloc), &calls)
 }
 
+fn expect_answer_line(alloc: Global, answer: &Answer, wanted: &str) -> Result<(), Fail> {
+    let mut told = String::new(alloc);
+    append_answer(alloc, &mut told, answer)?;
+    expect_text(told.as_str(), wanted)
+}
+
 fn expect_answer<S: Alter>(
     alloc: Global,
     desk: &mut Desk<S>,
@@ -188,9 +199,7 @@ fn expect_answer<S: Alter>(
     wanted: &str,
 ) -> Result<(), Fail> {
     let answer = answer_of_desk(alloc, desk, command, key)?;
-    let mut told = String::new(alloc);
-    append_answer(alloc, &mut told, &answer)?;
-    expect_text(told.as_str(), wanted)
+    expect_answer_line(alloc, &answer, wanted)
 }
 
 // A command is accepted under its key, repeated under it, and refused without it, because its
@@ -207,8 +216,8 @@ fn expect_answers<S: Alter>(
 }
 
 fn expect_answers_to_new_broker<S: Alter>(alloc: Global, desk: &mut Desk<S>) -> Result<(), Fail> {
-    let command = command_of_row(alloc, "broker,2,Cy")?;
     let key = key_of_row(alloc, 1)?;
+    let command = command_of_row(alloc, "broker,2,Cy")?;
     expect_answers(alloc, desk, &command, &key)
 }
 
