@@ -232,7 +232,7 @@ fn expect_view<S: Alter>(alloc: Global, desk: &mut Desk<S>) -> Result<(), Fail> 
 }
 
 fn expect_head<S: Alter>(alloc: Global, desk: &mut Desk<S>) -> Result<(), Fail> {
-    let account = Id::new(100).ok_or("account")?;
+    let account = Id::new(100).unwrap();
     let head = desk.head(alloc, account)?.ok_or("no account")?;
     let Head {
         name,

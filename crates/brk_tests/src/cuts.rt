@@ -45,44 +45,22 @@ const TABLES: &str = "DESK\n1,3,1709251200021\n\
     T,5,result\x1f2\x1f12.10,1709251200020,6.05,20.00,573.95,2024-03-03,505.00,605.00,9548.85\n\
     T,6,upname\x1f1,1709251200021,1\n";
 
+// For each row of `ROWS`, the number of bytes of the batch up to the end of the record after it, with
+// which the row is decided, and of the lines up to the end of its line.
+const ENDS: [(usize, usize); 6] = [
+    (68, 67),
+    (116, 135),
+    (134, 203),
+    (149, 224),
+    (158, 294),
+    (164, 315),
+];
+
 // The batch of `ROWS`, and all its lines on a desk after the batch `SET`.
 #[derive(Clone, Copy)]
 struct Whole<'a> {
     batch: &'a str,
     lines: &'a str,
-}
-
-impl<'a> Whole<'a> {
-    // Returns the number of rows that are decided if the reader fails after `len` bytes: a row is
-    // decided if the record after it was read.
-    fn rows_before_read_fault(self, len: usize) -> usize {
-        match self.batch.get(..len) {
-            Some(before) => before.split('\n').count().saturating_sub(3),
-            None => 0,
-        }
-    }
-
-    fn first_lines(self, rows: usize) -> &'a str {
-        let mut end = 0usize;
-        for line in self.lines.lines().take(rows) {
-            end = end.saturating_add(line.len()).saturating_add(1);
-        }
-        self.lines.get(..end).unwrap_or("")
-    }
-
-    // Returns the fault of the batch that `cut` fails after `at` bytes, and what it has written.
-    fn fault_of_cut(self, cut: Cut, at: usize) -> (usize, FaultKind, &'a str) {
-        match cut {
-            Cut::Reader(_) => {
-                let rows = self.rows_before_read_fault(at);
-                (rows, FaultKind::Read, self.first_lines(rows))
-            }
-            Cut::Writer(_) => {
-                let lines = self.lines.get(..at).unwrap_or("");
-                (lines.split('\n').count().min(6), FaultKind::Write, lines)
-            }
-        }
-    }
 }
 
 // Executes the batch on a desk, with a reader or a writer that fails once, as `cut` says, after
@@ -109,9 +87,20 @@ fn run_cut_batch<S: Alter>(
     }
 }
 
+// Returns the number of the rows that are decided if `cut` fails the batch after `at` bytes, the kind
+// of the fault, and the number of bytes that are written. A row is executed before its line is
+// written.
+fn fault_of_cut(cut: Cut, at: usize) -> (usize, FaultKind, usize) {
+    let (whole, written) = cut.whole_outputs(&ENDS, at);
+    match cut {
+        Cut::Reader(_) => (whole, FaultKind::Read, written),
+        Cut::Writer(_) => (whole.saturating_add(1).min(6), FaultKind::Write, written),
+    }
+}
+
 // Executes the batch, cut after `at` bytes, on a desk after the batch `SET`. Checks that it fails
-// with the fault of the cut (`Whole::fault_of_cut`) after exactly the lines before. Returns the
-// number of the rows that are decided.
+// with the fault of the cut (`fault_of_cut`) after exactly the lines before. Returns the number of
+// the rows that are decided.
 fn expect_fault_of_cut<S: Alter>(
     alloc: Global,
     desk: &mut Desk<S>,
@@ -119,17 +108,15 @@ fn expect_fault_of_cut<S: Alter>(
     cut: Cut,
     at: usize,
 ) -> Result<usize, Fail> {
-    let (rows, kind, lines) = whole.fault_of_cut(cut, at);
-    let wanted = BatchFault {
-        rows: rows as u64,
-        kind,
-    };
+    let (decided, kind, written) = fault_of_cut(cut, at);
+    let rows = decided as u64;
     let (told, ended) = run_cut_batch(alloc, desk, whole.batch.as_bytes(), cut, at);
     expect(
-        ended == Err(wanted) && told.as_slice() == lines.as_bytes(),
+        ended == Err(BatchFault { rows, kind })
+            && whole.lines.as_bytes().get(..written) == Some(told.as_slice()),
         format_args!("{}: the fault, or the lines", cut.case_at(at)),
     )?;
-    Ok(rows)
+    Ok(decided)
 }
 
 // Executes the whole batch on a desk that has accepted its first `booked` rows before. Checks that

@@ -31,24 +31,15 @@ fn store_with_forty_lots<S: Alter + Drop>(
     Ok(desk.into_store())
 }
 
-// The position whose lots are sold.
-#[derive(Drop)]
-struct Sold {
-    account: Id,
-    symbol: Symbol,
-}
-
-fn position_of_forty_lots(alloc: Global) -> Result<Sold, Fail> {
-    let account = Id::new(101).ok_or("account")?;
-    let symbol = Symbol::parse(alloc, b"ABC")?.ok_or("symbol")?;
-    Ok(Sold { account, symbol })
+fn account_of_lots() -> Id {
+    Id::new(101).unwrap()
 }
 
 // Computes the closing of the lots of a source by a sale of `count` shares at 10.00.
 fn closing_by_sale<L: LotSource>(alloc: Global, lots: &mut L, count: u32) -> Result<Closing, Fail> {
-    let trade = Id::new(1_000).ok_or("trade")?;
+    let trade = Id::new(1_000).unwrap();
     let qty = Qty::new(count).ok_or("quantity")?;
-    let price = Price::new(1_000).ok_or("price")?;
+    let price = Price::new(1_000).unwrap();
     let stamp = Stamp::nearest(FIRST_MOMENT);
     Ok(close(alloc, lots, Side::Sell, qty, trade, price, stamp)?)
 }
@@ -59,11 +50,11 @@ fn closing_by_sale<L: LotSource>(alloc: Global, lots: &mut L, count: u32) -> Res
 fn closing_and_row_count<S: Alter>(
     alloc: Global,
     store: &mut Store<S>,
-    sold: &Sold,
+    symbol: &Symbol,
     count: u32,
     lifo: bool,
 ) -> Result<(Closing, u64), Fail> {
-    let mut lots: LotPages<'_, S> = store.lot_pages(alloc, sold.account, &sold.symbol, lifo);
+    let mut lots: LotPages<'_, S> = store.lot_pages(alloc, account_of_lots(), symbol, lifo);
     let closing = closing_by_sale(alloc, &mut lots, count)?;
     Ok((closing, lots.rows_read()))
 }
@@ -85,12 +76,12 @@ fn append_removals<L: LotSource>(
 fn sell<S: Alter>(
     alloc: Global,
     store: &mut Store<S>,
-    sold: &Sold,
+    symbol: &Symbol,
     count: u32,
     lifo: bool,
 ) -> Result<(), Fail> {
     let mut changes = Vec::new(alloc);
-    let mut lots = store.lot_pages(alloc, sold.account, &sold.symbol, lifo);
+    let mut lots = store.lot_pages(alloc, account_of_lots(), symbol, lifo);
     append_removals(&mut lots, count, &mut changes)?;
     drop(lots);
     Ok(store.apply(&changes)?)
@@ -117,12 +108,12 @@ const THIRD_SALES: Sales = [
 fn expect_rows_read<S: Alter>(
     alloc: Global,
     store: &mut Store<S>,
-    sold: &Sold,
+    symbol: &Symbol,
     sale: (u32, usize, u64),
     lifo: bool,
 ) -> Result<(), Fail> {
     let (count, touched, read) = sale;
-    let (closing, rows) = closing_and_row_count(alloc, store, sold, count, lifo)?;
+    let (closing, rows) = closing_and_row_count(alloc, store, symbol, count, lifo)?;
     expect(
         closing.touched.len() == touched && rows == read,
         format_args!("a sale of {count} shares"),
@@ -133,12 +124,12 @@ fn expect_rows_read<S: Alter>(
 fn expect_rows_read_from_both_ends<S: Alter>(
     alloc: Global,
     store: &mut Store<S>,
-    sold: &Sold,
+    symbol: &Symbol,
     sales: &Sales,
 ) -> Result<(), Fail> {
     for lifo in [false, true] {
         for sale in *sales {
-            expect_rows_read(alloc, store, sold, sale, lifo)?;
+            expect_rows_read(alloc, store, symbol, sale, lifo)?;
         }
     }
     Ok(())
@@ -149,13 +140,13 @@ fn expect_rows_read_from_both_ends<S: Alter>(
 fn expect_rows_read_after_sales<S: Alter>(
     alloc: Global,
     store: &mut Store<S>,
-    sold: &Sold,
+    symbol: &Symbol,
 ) -> Result<(), Fail> {
-    expect_rows_read_from_both_ends(alloc, store, sold, &FIRST_SALES)?;
-    sell(alloc, store, sold, 1, false)?;
-    expect_rows_read_from_both_ends(alloc, store, sold, &SECOND_SALES)?;
-    sell(alloc, store, sold, 16, true)?;
-    expect_rows_read_from_both_ends(alloc, store, sold, &THIRD_SALES)
+    expect_rows_read_from_both_ends(alloc, store, symbol, &FIRST_SALES)?;
+    sell(alloc, store, symbol, 1, false)?;
+    expect_rows_read_from_both_ends(alloc, store, symbol, &SECOND_SALES)?;
+    sell(alloc, store, symbol, 16, true)?;
+    expect_rows_read_from_both_ends(alloc, store, symbol, &THIRD_SALES)
 }
 
 // Checks the rows that sales read on a desk in the database of a connection, on which account 102
@@ -163,18 +154,18 @@ fn expect_rows_read_after_sales<S: Alter>(
 fn expect_rows_read_beside<S: Alter + Drop>(
     alloc: Global,
     conn: Option<Connection<S>>,
-    sold: &Sold,
+    symbol: &Symbol,
     others: u64,
 ) -> Result<(), Fail> {
     let mut store = store_with_forty_lots(alloc, conn, others)?;
-    expect_rows_read_after_sales(alloc, &mut store, sold)
+    expect_rows_read_after_sales(alloc, &mut store, symbol)
 }
 
 /// Checks that a sale reads only the pages of at most 4 rows that contain the lots that it closes,
 /// whether it closes the oldest or the newest lots first, also after sales, and whether the desk has
 /// few lots or many.
 pub fn a_sale_reads_only_the_pages_it_needs(alloc: Global) -> Result<(), Fail> {
-    let sold = position_of_forty_lots(alloc)?;
-    expect_rows_read_beside(alloc, open_in_memory(alloc), &sold, 0)?;
-    expect_rows_read_beside(alloc, open_in_memory(alloc), &sold, OTHER_LOTS)
+    let symbol = Symbol::parse(alloc, b"ABC")?.ok_or("symbol")?;
+    expect_rows_read_beside(alloc, open_in_memory(alloc), &symbol, 0)?;
+    expect_rows_read_beside(alloc, open_in_memory(alloc), &symbol, OTHER_LOTS)
 }

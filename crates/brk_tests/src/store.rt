@@ -18,7 +18,7 @@ fn expect_balance<S: Alter>(store: &mut Store<S>, account: Id) -> Result<(), Fai
 }
 
 fn expect_totals<S: Alter>(store: &mut Store<S>) -> Result<(), Fail> {
-    let broker = Id::new(1).ok_or("broker")?;
+    let broker = Id::new(1).unwrap();
     let numbers = store.broker_numbers(broker)?.ok_or("no broker")?;
     expect(
         numbers.trades.get() == 3 && numbers.commissions.get() == 5_360,
@@ -84,7 +84,7 @@ fn expect_walked_sums<S: Alter>(store: &mut Store<S>, account: Id) -> Result<(),
 
 // Checks reads of the store of a desk after the trades of account 100, and its audit.
 fn expect_numbers_after_trades<S: Alter>(alloc: Global, store: &mut Store<S>) -> Result<(), Fail> {
-    let account = Id::new(100).ok_or("account")?;
+    let account = Id::new(100).unwrap();
     expect_balance(store, account)?;
     expect_totals(store)?;
     expect_summary(alloc, store, account)?;

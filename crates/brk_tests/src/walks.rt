@@ -224,7 +224,7 @@ const LOTS: [(u64, u64, &str, Result<(), Ended>); 5] = [
 
 // Checks each walk of `CASH` over the cash rows of account 100 on a desk after `TRADES`.
 fn expect_cash_row_walks<S: Alter>(alloc: Global, desk: &mut Desk<S>) -> Result<(), Fail> {
-    let account = Id::new(100).ok_or("an account")?;
+    let account = Id::new(100).unwrap();
     for (from, to, left, rows, wanted) in CASH {
         let mut seen = Seen {
             rows: String::new(alloc),

@@ -13,7 +13,7 @@ use brk_report::{StatementFault, statement};
 use brk_store::Store;
 pub use brk_tests_unit::expect::expect;
 use sqlite::{Alter, Connection, MemStore};
-use std::alloc::Global;
+use std::alloc::{AllocError, Global};
 use std::fmt;
 use std::fmt::{Display, Formatter};
 use std::io::{Read, Write};
@@ -129,27 +129,32 @@ impl Display for Case<'_> {
     }
 }
 
+// Returns the number, counted from 1, of the first line of `told` that differs from that of
+// `wanted`, or that one of the two does not have.
+fn first_difference(told: &str, wanted: &str) -> u64 {
+    let mut at = 1u64;
+    for (line, want) in told.lines().zip(wanted.lines()) {
+        if line != want {
+            return at;
+        }
+        at = at.saturating_add(1);
+    }
+    at
+}
+
 /// Checks that the text `told` has exactly the lines `wanted`. Fails with `case`, `what` and the
-/// number, counted from 1, of the first line that differs, and with `case` and `what` if no line
-/// differs but the texts do, for example because lines are missing or there are more.
+/// number, counted from 1, of the first line that differs, is missing or is one too many.
 pub(crate) fn expect_lines(
     case: Case<'_>,
     what: &str,
     told: &str,
     wanted: &str,
 ) -> Result<(), Fail> {
-    let mut at = 0u64;
-    for (line, want) in told.lines().zip(wanted.lines()) {
-        at = at.saturating_add(1);
-        if line != want {
-            return Err(Fail::new(format_args!("{case}: line {at} of the {what}")));
-        }
-    }
-    if told == wanted {
-        Ok(())
-    } else {
-        Err(Fail::new(format_args!("{case}: {what} that are missing, or more of them")))
-    }
+    let at = first_difference(told, wanted);
+    expect(
+        told == wanted,
+        format_args!("{case}: line {at} of the {what}"),
+    )
 }
 
 /// A batch, and the lines that it writes on a desk at 2024-03-01 00:00 UTC.
@@ -221,6 +226,15 @@ fn expect_batch_lines(case: Case<'_>, told: &[u8], wanted: &str) -> Result<(), F
     }
 }
 
+// Returns the end line of a batch with these counts, or another text for a fault. Fails only if
+// memory runs out.
+fn end_line(alloc: Global, ended: Result<Counts, BatchFault>) -> Result<String, AllocError> {
+    match ended {
+        Ok(Counts { ok, again, no }) => format!(in alloc; "end,{ok},{again},{no}\n"),
+        Err(_) => String::from_str(alloc, "a fault"),
+    }
+}
+
 // Checks that a batch completed, and that the lines `lines` end with the end line of its counts.
 // Fails with `case` if not, and without it if memory runs out.
 fn expect_batch_counts(
@@ -229,13 +243,10 @@ fn expect_batch_counts(
     ended: Result<Counts, BatchFault>,
     lines: &str,
 ) -> Result<(), Fail> {
-    let Ok(Counts { ok, again, no }) = ended else {
-        return Err(Fail::new(format_args!("{case}: a fault")));
-    };
-    let last = format!(in alloc; "end,{ok},{again},{no}\n")?;
+    let last = end_line(alloc, ended)?;
     expect(
         lines.ends_with(last.as_str()),
-        format_args!("{case}: the counts"),
+        format_args!("{case}: the counts, or a fault"),
     )
 }
 

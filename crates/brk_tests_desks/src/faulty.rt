@@ -124,4 +124,26 @@ impl Cut {
         };
         Case { what, at }
     }
+
+    /// Returns the number of those inputs whose outputs are whole if this fails after `at` bytes,
+    /// and the number of bytes that are written: those of the outputs of all inputs that were read
+    /// whole, or `at` bytes if the writer fails. `ends` has, for each input in order, the number of
+    /// bytes up to its end, and of those of the outputs up to the end of its own.
+    pub fn whole_outputs(self, ends: &[(usize, usize)], at: usize) -> (usize, usize) {
+        let (mut count, mut written) = (0usize, 0usize);
+        for (input, output) in ends {
+            let end = match self {
+                Cut::Reader(_) => *input,
+                Cut::Writer(_) => *output,
+            };
+            if end <= at {
+                count = count.saturating_add(1);
+                written = *output;
+            }
+        }
+        match self {
+            Cut::Reader(_) => (count, written),
+            Cut::Writer(_) => (count, at),
+        }
+    }
 }

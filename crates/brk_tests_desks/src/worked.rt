@@ -1,6 +1,7 @@
 //! The batch that sets a desk up, and trades of one account with the lines of their replies.
 
 use std::alloc::Global;
+use std::fmt;
 use std::test::Fail;
 
 /// 2024-03-01 00:00 UTC, in milliseconds since 1970-01-01 UTC.
@@ -112,6 +113,19 @@ pub fn append_end_record(batch: &mut String, rows: u64) -> Result<(), Fail> {
     Ok(())
 }
 
+// Appends purchases of one share (`append_purchase`), with the trade ids from `first` on.
+fn append_purchases(
+    batch: &mut String,
+    account: u64,
+    first: u64,
+    purchases: u64,
+) -> Result<(), Fail> {
+    for n in 0..purchases {
+        append_purchase(batch, account, 1, first.saturating_add(n))?;
+    }
+    Ok(())
+}
+
 /// Returns the text of a batch that adds an account, and buys one share of ABC at 10.00 for it
 /// `purchases` times, with the trade ids from `first` on. Fails only if memory runs out.
 pub(crate) fn format_purchases(
@@ -120,13 +134,12 @@ pub(crate) fn format_purchases(
     first: u64,
     purchases: u64,
 ) -> Result<String, Fail> {
+    let rows = purchases.saturating_mul(2).saturating_add(1);
     let mut batch = format!(in alloc;
         "batch,P{account}\naccount,{account},10,1,Side,1,10000.00\n"
     )?;
-    for n in 0..purchases {
-        append_purchase(&mut batch, account, 1, first.saturating_add(n))?;
-    }
-    append_end_record(&mut batch, purchases.saturating_mul(2).saturating_add(1))?;
+    append_purchases(&mut batch, account, first, purchases)?;
+    append_end_record(&mut batch, rows)?;
     Ok(batch)
 }
 
@@ -141,17 +154,16 @@ pub fn format_batch(alloc: Global, rows: &[&str]) -> Result<String, Fail> {
     Ok(batch)
 }
 
+fn append_reply_line(told: &mut String, number: u64, word: &str, line: &str) -> fmt::Result {
+    writeln!(told, "{number},{word},{line}")
+}
+
 // Appends a line for each reply in `lines`, in the form in which a batch writes it: the number of
 // its row, counted from `first`, the word `word`, and the reply. Fails only if memory runs out.
-fn append_reply_lines(
-    told: &mut String,
-    first: u64,
-    word: &str,
-    lines: &[&str],
-) -> Result<(), Fail> {
+fn append_reply_lines(told: &mut String, first: u64, word: &str, lines: &[&str]) -> fmt::Result {
     let mut number = first;
     for line in lines {
-        writeln!(told, "{number},{word},{line}")?;
+        append_reply_line(told, number, word, line)?;
         number = number.saturating_add(1);
     }
     Ok(())

@@ -49,27 +49,6 @@ const REPEATED: &str =
 // its reply.
 const ENDS: [(usize, usize); 3] = [(78, 95), (156, 193), (221, 275)];
 
-// Returns the number of requests that have their whole replies on a stream that `cut` fails after
-// `at` bytes, and the bytes of all replies. The reader fails behind the requests that were read
-// whole, and the writer within or before a reply.
-fn replies_before_cut(cut: Cut, at: usize) -> (u64, usize) {
-    let (mut done, mut written) = (0u64, 0usize);
-    for (request, reply) in ENDS {
-        let end = match cut {
-            Cut::Reader(_) => request,
-            Cut::Writer(_) => reply,
-        };
-        if end <= at {
-            done = done.saturating_add(1);
-            written = reply;
-        }
-    }
-    match cut {
-        Cut::Reader(_) => (done, written),
-        Cut::Writer(_) => (done, at),
-    }
-}
-
 // Serves the stream on a desk, with a reader or a writer that fails once, as `cut` says, after `at`
 // bytes. Returns the bytes that were written, and the number of replies or the fault.
 fn serve_cut_stream<S: Alter>(
@@ -104,31 +83,33 @@ fn ending_word(ended: &Result<u64, ServeFault>) -> &'static str {
     }
 }
 
+// Returns the fault of the stream that `cut` fails after `at` bytes, and the number of bytes that it
+// has written.
+fn fault_of_cut(cut: Cut, at: usize) -> (ServeFault, usize) {
+    let (whole, written) = cut.whole_outputs(&ENDS, at);
+    let kind = match cut {
+        Cut::Reader(_) => FaultKind::Read,
+        Cut::Writer(_) => FaultKind::Write,
+    };
+    let done = whole as u64;
+    (ServeFault { done, kind }, written)
+}
+
 // Serves the stream, cut after `at` bytes, on a desk after the batch `SET`. Checks that it fails
-// with `Read` or `Write` after exactly the replies before (`replies_before_cut`). Returns true if
-// the first request was executed: it was read whole, or its reply was to be written.
+// with the fault of the cut (`fault_of_cut`) after exactly the replies before.
 fn expect_fault_of_cut<S: Alter>(
     alloc: Global,
     desk: &mut Desk<S>,
     cut: Cut,
     at: usize,
-) -> Result<bool, Fail> {
-    let (done, written) = replies_before_cut(cut, at);
-    let kind = match cut {
-        Cut::Reader(_) => FaultKind::Read,
-        Cut::Writer(_) => FaultKind::Write,
-    };
+) -> Result<(), Fail> {
+    let (fault, written) = fault_of_cut(cut, at);
     let (out, ended) = serve_cut_stream(alloc, desk, cut, at);
+    let told = ending_word(&ended);
     expect(
-        REPLIES.as_bytes().get(..written) == Some(out.as_slice())
-            && ended == Err(ServeFault { done, kind }),
-        format_args!(
-            "{}: {}, or the replies",
-            cut.case_at(at),
-            ending_word(&ended)
-        ),
-    )?;
-    Ok(done > 0 || kind == FaultKind::Write)
+        ended == Err(fault) && REPLIES.as_bytes().get(..written) == Some(out.as_slice()),
+        format_args!("{}: {told}, or the replies", cut.case_at(at)),
+    )
 }
 
 // Serves the whole stream on a desk after the batch `SET`, which has executed the first request
@@ -159,7 +140,9 @@ fn expect_retry_after_cut<S: Alter + Drop>(
 ) -> Result<(), Fail> {
     let case = cut.case_at(at);
     let mut desk = desk_with_reference_data(alloc, conn)?;
-    let executed = expect_fault_of_cut(alloc, &mut desk, cut, at)?;
+    expect_fault_of_cut(alloc, &mut desk, cut, at)?;
+    // the first request was executed if it was read whole, or its reply was to be written
+    let executed = matches!(cut, Cut::Writer(_)) || at >= ENDS[0].0;
     expect_replies_of_retry(alloc, &mut desk, case, executed)?;
     expect_all_tables(alloc, &mut connection_of_desk(desk), case, TABLES)
 }
