@@ -1,7 +1,6 @@
 //! The batch that sets a desk up, and trades of one account with the lines of their replies.
 
-use std::alloc::Global;
-use std::fmt;
+use std::alloc::{AllocError, Global};
 use std::test::Fail;
 
 /// 2024-03-01 00:00 UTC, in milliseconds since 1970-01-01 UTC.
@@ -154,13 +153,23 @@ pub fn format_batch(alloc: Global, rows: &[&str]) -> Result<String, Fail> {
     Ok(batch)
 }
 
-fn append_reply_line(told: &mut String, number: u64, word: &str, line: &str) -> fmt::Result {
+fn append_reply_line(
+    told: &mut String,
+    number: u64,
+    word: &str,
+    line: &str,
+) -> Result<(), AllocError> {
     writeln!(told, "{number},{word},{line}")
 }
 
 // Appends a line for each reply in `lines`, in the form in which a batch writes it: the number of
 // its row, counted from `first`, the word `word`, and the reply. Fails only if memory runs out.
-fn append_reply_lines(told: &mut String, first: u64, word: &str, lines: &[&str]) -> fmt::Result {
+fn append_reply_lines(
+    told: &mut String,
+    first: u64,
+    word: &str,
+    lines: &[&str],
+) -> Result<(), AllocError> {
     let mut number = first;
     for line in lines {
         append_reply_line(told, number, word, line)?;
