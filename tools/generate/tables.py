@@ -1626,9 +1626,9 @@ def table_list():
     keys = lambda d: ', '.join(str(n + 1) for n in range(len(key_columns(d))))
     out = f"""//! Written by tools/generate/tables.py: the tables that a transcript shows.
 
-/// The tables, and the places of the columns of their keys.
+/// The tables, and the query of the rows of each, sorted by its key.
 pub const TABLES: [(&str, &str); {len(DATA)}] = [
-{''.join(f'    ("{d[1]}", "{keys(d)}"),{chr(10)}' for d in DATA)}];
+{''.join(f'    ("{d[1]}", "SELECT * FROM {d[1]} ORDER BY {keys(d)}"),{chr(10)}' for d in DATA)}];
 """
     save('crates/brk_tests_replay/src/table_list.rt', out)
 

@@ -5,9 +5,8 @@
 
 mod tests;
 
-use brk_tests_replay::{
-    OutOfMemory, count_commands, first_difference, list_transcripts, replay_transcript,
-};
+use brk_tests_replay::{count_commands, first_difference, list_transcripts, replay_transcript};
+use std::alloc::AllocError;
 use std::fmt::{Display, Formatter};
 use std::process::ExitCode;
 use std::{fmt, fs, io};
@@ -41,9 +40,9 @@ impl Display for Failed {
     }
 }
 
-impl From<OutOfMemory> for Failed {
+impl From<AllocError> for Failed {
     // Returns the reason: memory ran out.
-    fn from(_: OutOfMemory) -> Failed {
+    fn from(_: AllocError) -> Failed {
         Failed::Memory
     }
 }

@@ -7,7 +7,9 @@ use crate::machine::{
     File, Held, MachineCrash, Sent, files_after_sql, files_with_reference_data,
     run_batch_until_crash,
 };
-use brk_tests_desks::desks::{connection_of_desk, desk_with_reference_data, open_in_memory};
+use brk_tests_desks::desks::{
+    connection_of_desk, desk_with_reference_data, expect, open_in_memory,
+};
 use brk_tests_desks::retried::{ROWS, all_lines_of_retry};
 use brk_tests_desks::worked;
 use brk_tests_desks::worked::{
@@ -63,12 +65,8 @@ pub const STOPS: [MachineCrash; 4] = [
 
 /// Fails, with the name of the crash, its number of calls and the text `what`, if `is_so` is false.
 pub fn fail_unless(is_so: bool, stop: MachineCrash, what: &str) -> Result<(), Fail> {
-    if is_so {
-        Ok(())
-    } else {
-        let MachineCrash { name, calls, .. } = stop;
-        Err(Fail::new(format_args!("{name}, call {calls}: {what}")))
-    }
+    let MachineCrash { name, calls, .. } = stop;
+    expect(is_so, format_args!("{name}, call {calls}: {what}"))
 }
 
 // Executes a batch on a new desk in the database of a connection after the batch `SET`. Returns the
@@ -91,15 +89,7 @@ fn run_observed_batch_after_set<S: Alter + Drop>(
 // runs out.
 fn tables_after_rows(alloc: Global, rows: usize) -> Result<String, Fail> {
     let batch = format_batch(alloc, &ROWS[..rows.min(6)])?;
-    let Observation { after, .. } = run_observed_batch_after_set(
-        alloc,
-        open_in_memory(alloc),
-        batch.as_bytes(),
-    )?;
-    if after.is_empty() {
-        return Err("tables that could not be read")?;
-    }
-    Ok(after)
+    run_observed_batch_after_set(alloc, open_in_memory(alloc), batch.as_bytes())?.into_tables()
 }
 
 // Returns true if a batch wrote exactly the lines `lines`, its desk passed the audit, and the
@@ -108,287 +98,203 @@ fn is_sound_with_lines_and_tables(seen: &Observation, lines: &str, tables: &str)
     seen.is_sound && seen.lines.as_slice() == lines.as_bytes() && seen.after.as_str() == tables
 }
 
-// Creates a desk and executes a batch without rows on it until the crash `stop`, and then executes
-// the batch `SET` on the desk that is opened or created from the files. Returns two flags: true if
-// the batch has the lines `SET_LINES`, the tables after it are `tables` and the audit passes; and
-// true if there was a crash. Fails only if memory runs out.
-fn interrupt_creation_and_set_up(
-    alloc: Global,
-    stop: MachineCrash,
-    tables: &str,
-) -> Result<(bool, bool), Fail> {
-    let first = run_batch_until_crash(alloc, &Held::empty_files(alloc), stop, NO_ROWS)?;
-    let again = run_batch_until_crash(alloc, &first.held, MachineCrash::NEVER, SET)?;
-    Ok((
-        is_sound_with_lines_and_tables(&again.seen, SET_LINES, tables),
-        first.was_stopped,
-    ))
+// What the machine does until a crash, and again after it: it executes the batch `first` on the desk
+// in the files `start`, which is created or upgraded before, and then the batch `again` on the desk
+// that is opened or created from the files after the crash, or after the end of `first` if there was
+// none.
+#[derive(Clone, Copy)]
+struct Work<'a> {
+    start: &'a Held,
+    first: &'a [u8],
+    again: &'a [u8],
+    wanted: Wanted<'a>,
 }
 
-// Creates a desk until the crash `stop`, and checks that the batch `SET` then completes on the desk
-// in the files, with its lines, the tables `tables` after it, and an audit that passes. Returns
-// true if there was a crash. Fails if not all of this is so, or if memory runs out.
-fn expect_creation_crash_recovered(
-    alloc: Global,
-    stop: MachineCrash,
-    tables: &str,
-) -> Result<bool, Fail> {
-    let (is_set, was_stopped) = interrupt_creation_and_set_up(alloc, stop, tables)?;
-    fail_unless(is_set, stop, "it is not set up")?;
-    Ok(was_stopped)
+// What the machine creates, books or upgrades.
+#[derive(Clone, Copy)]
+enum Wanted<'a> {
+    // A desk without rows, whose tables after the batch `SET` are these.
+    Creation(&'a str),
+    // The batch of all `ROWS`. The tables after each number of its rows, from none on, are these.
+    Batch(&'a [String]),
+    // The upgrade of a desk of an older schema, whose tables in schema 3 are these.
+    Upgrade(&'a str),
 }
 
-// Returns the number of rows of the batch that are committed after a crash with the tables `found`:
-// the number of line feeds in `told`, at most six, or one more. `tables` are the tables after each
-// number of rows, from none on. Returns the smaller number if `found` are the tables after both,
-// and `None` if they are the tables after neither.
-fn committed_row_count_after_crash(told: &[u8], found: &str, tables: &[String]) -> Option<usize> {
-    let mut settled = 0usize;
+// Checks that the desk is set up after the crash: the batch `SET` has its lines, the tables after it
+// are `tables`, and the audit passes.
+fn expect_creation_completed(
+    stop: MachineCrash,
+    again: &Observation,
+    tables: &str,
+) -> Result<(), Fail> {
+    let is_set = is_sound_with_lines_and_tables(again, SET_LINES, tables);
+    fail_unless(is_set, stop, "it is not set up")
+}
+
+// Returns the number of line feeds in `told`, at most six.
+fn count_lines(told: &[u8]) -> usize {
+    let mut count = 0usize;
     for byte in told {
         if *byte == b'\n' {
-            settled = settled.saturating_add(1);
+            count = count.saturating_add(1);
         }
     }
-    let settled = settled.min(6);
-    for rows in [settled, settled.saturating_add(1)] {
-        if let Some(text) = tables.get(rows) {
-            if text.as_str() == found {
-                return Some(rows);
-            }
-        }
+    count.min(6)
+}
+
+// Returns true if `found` are the tables after `rows` rows. `tables` are the tables after each
+// number of rows, from none on.
+fn are_tables_after(rows: usize, found: &str, tables: &[String]) -> bool {
+    match tables.get(rows) {
+        Some(text) => text.as_str() == found,
+        None => false,
     }
-    None
 }
 
-/// The observations of a batch until a crash and of its retry on the desk that is opened after it,
-/// and true if there was a crash.
-#[derive(Drop)]
-struct CrashAndRetry {
-    first: Observation,
-    was_stopped: bool,
-    again: Observation,
+/// Returns the number of rows that are committed if the tables are `found`: `told`, the number of
+/// rows with a reply, or one more. `tables` are the tables after each number of rows, from none on.
+/// Returns the smaller number if `found` are the tables after both. Fails with the crash `stop` if
+/// they are the tables after neither.
+pub fn expect_committed_rows(
+    stop: MachineCrash,
+    told: usize,
+    found: &str,
+    tables: &[String],
+) -> Result<usize, Fail> {
+    if are_tables_after(told, found, tables) {
+        return Ok(told);
+    }
+    let more = told.saturating_add(1);
+    fail_unless(
+        are_tables_after(more, found, tables),
+        stop,
+        "tables of other rows",
+    )?;
+    Ok(more)
 }
 
-// Executes the batch on the desk in the files `start` until the crash `stop`, and retries it on the
-// desk that is opened from the files after the crash, or after the end of the batch if there was
-// none. Returns the observations of both runs, and true if there was a crash. Fails only if memory
-// runs out.
-fn crash_and_retry_batch(
+// Checks that the lines until the crash are a prefix of the lines of the batch of all `ROWS`, and
+// that a run without a crash has exactly these lines and the tables `last`, and passes its audit.
+// Fails if not, or if memory runs out.
+fn expect_first_lines(
     alloc: Global,
     stop: MachineCrash,
-    start: &Held,
-    batch: &str,
-) -> Result<CrashAndRetry, Fail> {
-    let first = run_batch_until_crash(alloc, start, stop, batch.as_bytes())?;
-    let again = run_batch_until_crash(alloc, &first.held, MachineCrash::NEVER, batch.as_bytes())?;
-    let Sent {
-        seen,
-        was_stopped,
-        ..
-    } = first;
-    Ok(CrashAndRetry {
-        first: seen,
-        was_stopped,
-        again: again.seen,
-    })
-}
-
-// Checks that the lines until the crash are a prefix of the lines `whole` of the batch, that a run
-// without a crash has exactly the lines `whole` and the tables `last`, and that the retry has the
-// lines `rest` and the tables `last`. The audits after both complete runs must pass. Fails if not
-// all of this is so.
-fn expect_lines_and_tables(
-    stop: MachineCrash,
-    twice: &CrashAndRetry,
-    whole: &str,
-    rest: &str,
+    first: &Sent,
     last: &str,
 ) -> Result<(), Fail> {
-    let is_part = whole.as_bytes().starts_with(&twice.first.lines);
+    let whole = all_lines_of_retry(alloc, 0)?;
+    let is_part = whole.as_bytes().starts_with(&first.seen.lines);
     fail_unless(is_part, stop, "other lines before it")?;
-    let is_whole = is_sound_with_lines_and_tables(&twice.first, whole, last);
+    let is_whole = is_sound_with_lines_and_tables(&first.seen, whole.as_str(), last);
     fail_unless(
-        twice.was_stopped || is_whole,
+        first.was_stopped || is_whole,
         stop,
         "an early end without it",
-    )?;
-    fail_unless(
-        is_sound_with_lines_and_tables(&twice.again, rest, last),
-        stop,
-        "it is not completed",
     )
 }
 
+// Checks that the retry completes the batch of all `ROWS` on a desk that has accepted its first
+// `rows` rows: it has the stored replies to these rows, accepts the others, passes its audit, and
+// has the tables `last`. Fails if not, or if memory runs out.
+fn expect_batch_completed(
+    alloc: Global,
+    stop: MachineCrash,
+    again: &Observation,
+    rows: usize,
+    last: &str,
+) -> Result<(), Fail> {
+    let rest = all_lines_of_retry(alloc, rows)?;
+    let is_completed = is_sound_with_lines_and_tables(again, rest.as_str(), last);
+    fail_unless(is_completed, stop, "it is not completed")
+}
+
 // Checks that the tables after the crash are those after the rows with a written line, or after one
-// row more, and that the retry completes the batch of all `ROWS`: it has the stored replies to
-// these rows, accepts the others, passes its audit, and has the last of `tables`, which are the
-// tables after each number of rows, from none on. Checks also that the bytes written until the
-// crash are a prefix of the lines of the batch, and that a run without a crash has all lines,
-// passes its audit, and has the last of `tables`. Fails if not all of this is so, or if memory runs
-// out.
+// row more, and that the retry completes the batch (`expect_batch_completed`) with the last of
+// `tables`, which are the tables after each number of rows, from none on. Checks also the lines
+// until the crash (`expect_first_lines`). Fails if not all of this is so, or if memory runs out.
 fn expect_retry_completes(
     alloc: Global,
     stop: MachineCrash,
-    twice: &CrashAndRetry,
+    first: &Sent,
+    again: &Observation,
     tables: &[String],
 ) -> Result<(), Fail> {
     let last = match tables.last() {
         Some(text) => text.as_str(),
         None => "",
     };
-    let rows = committed_row_count_after_crash(
-        &twice.first.lines,
-        twice.again.before.as_str(),
-        tables,
-    );
-    fail_unless(rows.is_some(), stop, "tables of no row")?;
-    let whole = all_lines_of_retry(alloc, 0)?;
-    let rest = all_lines_of_retry(alloc, rows.unwrap_or(0))?;
-    expect_lines_and_tables(stop, twice, whole.as_str(), rest.as_str(), last)
+    let told = count_lines(&first.seen.lines);
+    let rows = expect_committed_rows(stop, told, again.before.as_str(), tables)?;
+    expect_first_lines(alloc, stop, first, last)?;
+    expect_batch_completed(alloc, stop, again, rows, last)
 }
 
-// Executes the batch with all rows of `ROWS` on the desk in the files `start` until the crash
-// `stop`, retries it, and checks that the tables after the crash are those after the rows with a
-// written line, or after one row more, and that the retry completes the batch
-// (`expect_retry_completes`). `tables` are the tables after each number of rows, from none on.
-// Returns true if there was a crash. Fails if not all of this is so, or if memory runs out.
-fn expect_batch_crash_recovered(
-    alloc: Global,
+// Checks that the upgrade is atomic: after the crash it was not begun, so that the tables of schema
+// 3 cannot be read, and no line of a batch was written; or it was complete, with the tables
+// `tables`. Checks also that it is complete after the retry, with these tables, the end line of the
+// batch, and an audit that passes.
+fn expect_upgrade_completed(
     stop: MachineCrash,
-    start: &Held,
-    batch: &str,
-    tables: &[String],
-) -> Result<bool, Fail> {
-    let twice = crash_and_retry_batch(alloc, stop, start, batch)?;
-    expect_retry_completes(alloc, stop, &twice, tables)?;
-    Ok(twice.was_stopped)
+    first: &Observation,
+    again: &Observation,
+    tables: &str,
+) -> Result<(), Fail> {
+    let is_older = again.before.is_empty() && first.lines.is_empty();
+    let is_whole = is_older || again.before.as_str() == tables;
+    fail_unless(is_whole, stop, "it is moved in part")?;
+    let is_done = is_sound_with_lines_and_tables(again, "end,0,0,0\n", tables);
+    fail_unless(is_done, stop, "it is not moved")
 }
 
-// Executes the first three trades of `worked::ROWS` as a batch on a desk in files after the batch
-// `SET`. Returns the observation of the batch and the files after it. Does not check that the
-// batches complete. Fails only if memory runs out.
-fn files_after_trades(alloc: Global) -> Result<Sent, Fail> {
-    let batch = format_batch(alloc, &worked::ROWS[..6])?;
-    let set = files_with_reference_data(alloc)?;
-    run_batch_until_crash(alloc, &set, MachineCrash::NEVER, batch.as_bytes())
-}
-
-// Returns the files of a desk of three trades after the SQL statements `change`, which convert it
-// to an older schema, and the text of its tables before, in schema 3. Fails if the tables cannot be
-// read, the statements fail or memory runs out.
-fn files_of_older_schema(alloc: Global, change: &str) -> Result<(Held, String), Fail> {
-    let Sent { seen, held, .. } = files_after_trades(alloc)?;
-    let Observation { after, .. } = seen;
-    if after.is_empty() {
-        return Err("tables that could not be read")?;
-    }
-    let held = files_after_sql(alloc, &held, change)?;
-    Ok((held, after))
-}
-
-// The result of an upgrade until a crash, and of its retry.
-#[derive(Clone, Copy)]
-struct UpgradeObservation {
-    // True if the upgrade was not begun or was complete after the crash.
-    is_whole: bool,
-    // True if the upgrade is complete after the retry.
-    is_done: bool,
-    was_stopped: bool,
-}
-
-// Upgrades the desk of an older schema in the files `start` and executes a batch without rows on it
-// until the crash `stop`, and then does both again. Returns whether the upgrade was not begun or
-// was complete after the crash, whether it is complete after the retry, and whether there was a
-// crash. It counts as not begun if the tables of schema 3 cannot be read and no line was written;
-// as complete after the crash if the tables are `tables`, those of the desk in schema 3; and as
-// complete after the retry if also the batch has its end line and the audit passes. Fails only if
+// Checks the run until the crash and the run after it: `expect_creation_completed`,
+// `expect_retry_completes` or `expect_upgrade_completed`. Fails if what it checks is not so, or if
 // memory runs out.
-fn crash_and_retry_upgrade(
+fn expect_recovered(
     alloc: Global,
     stop: MachineCrash,
-    start: &Held,
-    tables: &str,
-) -> Result<UpgradeObservation, Fail> {
-    let first = run_batch_until_crash(alloc, start, stop, NO_ROWS)?;
-    let again = run_batch_until_crash(alloc, &first.held, MachineCrash::NEVER, NO_ROWS)?;
-    let is_older = again.seen.before.is_empty() && first.seen.lines.is_empty();
-    Ok(UpgradeObservation {
-        is_whole: is_older || again.seen.before.as_str() == tables,
-        is_done: is_sound_with_lines_and_tables(&again.seen, "end,0,0,0\n", tables),
-        was_stopped: first.was_stopped,
-    })
+    first: &Sent,
+    again: &Observation,
+    wanted: Wanted<'_>,
+) -> Result<(), Fail> {
+    match wanted {
+        Wanted::Creation(tables) => expect_creation_completed(stop, again, tables),
+        Wanted::Batch(tables) => expect_retry_completes(alloc, stop, first, again, tables),
+        Wanted::Upgrade(tables) => expect_upgrade_completed(stop, &first.seen, again, tables),
+    }
 }
 
-// Upgrades the desk of an older schema in the files `start` until the crash `stop`, and then
-// retries the upgrade. Checks that the upgrade is atomic, that no line of a batch is written before
-// the upgrade is committed, and that the retry completes the upgrade with the tables `tables`,
-// which are the desk's tables in schema 3, and an audit that passes. Returns true if there was a
-// crash. Fails if not all of this is so, or if memory runs out.
-fn expect_upgrade_crash_recovered(
-    alloc: Global,
-    stop: MachineCrash,
-    start: &Held,
-    tables: &str,
-) -> Result<bool, Fail> {
-    let moved = crash_and_retry_upgrade(alloc, stop, start, tables)?;
-    fail_unless(moved.is_whole, stop, "it is moved in part")?;
-    fail_unless(moved.is_done, stop, "it is not moved")?;
-    Ok(moved.was_stopped)
-}
-
-// What the machine does until a crash.
-#[derive(Clone, Copy)]
-enum Work<'a> {
-    // It creates a desk, whose tables after the batch `SET` are these.
-    Creation(&'a str),
-    // It executes the batch on the desk in the files `start`. `tables` are the tables after each
-    // number of its rows.
-    Batch {
-        start: &'a Held,
-        batch: &'a str,
-        tables: &'a [String],
-    },
-    // It upgrades the desk of an older schema in the files `start`. `tables` are its tables in
-    // schema 3.
-    Upgrade {
-        start: &'a Held,
-        tables: &'a str,
-    },
-}
-
-// Performs the work until the crash `stop`, and checks that the desk recovers from it
-// (`expect_creation_crash_recovered`, `expect_batch_crash_recovered` or
-// `expect_upgrade_crash_recovered`). Returns true if there was a crash. Fails if the desk does not
+// Performs the work until the crash `stop` and again after it, and checks that the desk recovers
+// from the crash (`expect_recovered`). Returns true if there was a crash. Fails if the desk does not
 // recover, or if memory runs out.
 fn expect_crash_recovered(alloc: Global, stop: MachineCrash, work: Work<'_>) -> Result<bool, Fail> {
-    match work {
-        Work::Creation(tables) => expect_creation_crash_recovered(alloc, stop, tables),
-        Work::Batch {
-            start,
-            batch,
-            tables,
-        } => expect_batch_crash_recovered(alloc, stop, start, batch, tables),
-        Work::Upgrade { start, tables } => expect_upgrade_crash_recovered(
-            alloc, stop, start, tables,
-        ),
-    }
+    let first = run_batch_until_crash(alloc, work.start, stop, work.first)?;
+    let again = run_batch_until_crash(alloc, &first.held, MachineCrash::NEVER, work.again)?;
+    expect_recovered(alloc, stop, &first, &again.seen, work.wanted)?;
+    Ok(first.was_stopped)
 }
 
-// Performs the work with each crash of `STOPS` at each call of its file, until a run has no crash,
-// and checks that the desk recovers from each crash. Fails if it does not, if a run without a crash
-// is not reached within `MOST_CALLS` runs, or if memory runs out.
+// Performs the work with the crash `stop` at each call of its file, until a run has no crash, and
+// checks that the desk recovers from each crash. Fails if it does not, if a run without a crash is
+// not reached within `MOST_CALLS` runs, or if memory runs out.
+fn expect_each_call_recovered(
+    alloc: Global,
+    stop: MachineCrash,
+    work: Work<'_>,
+) -> Result<(), Fail> {
+    for calls in 0..MOST_CALLS {
+        if !expect_crash_recovered(alloc, MachineCrash { calls, ..stop }, work)? {
+            return Ok(());
+        }
+    }
+    Err(Fail::new("always stopped"))
+}
+
+// Performs the work with each crash of `STOPS` at each call of its file
+// (`expect_each_call_recovered`).
 fn expect_each_crash_recovered(alloc: Global, work: Work<'_>) -> Result<(), Fail> {
     for stop in STOPS {
-        let mut was_stopped = true;
-        for calls in 0..MOST_CALLS {
-            was_stopped = expect_crash_recovered(alloc, MachineCrash { calls, ..stop }, work)?;
-            if !was_stopped {
-                break;
-            }
-        }
-        if was_stopped {
-            return Err("always stopped")?;
-        }
+        expect_each_call_recovered(alloc, stop, work)?;
     }
     Ok(())
 }
@@ -397,7 +303,14 @@ fn expect_each_crash_recovered(alloc: Global, work: Work<'_>) -> Result<(), Fail
 /// or the database file during its creation, with the bytes that were not synced lost or stored.
 pub fn desk_creation_recovers_from_crashes(alloc: Global) -> Result<(), Fail> {
     let tables = tables_after_rows(alloc, 0)?;
-    expect_each_crash_recovered(alloc, Work::Creation(tables.as_str()))
+    let start = Held::empty_files(alloc);
+    let work = Work {
+        start: &start,
+        first: NO_ROWS,
+        again: SET,
+        wanted: Wanted::Creation(tables.as_str()),
+    };
+    expect_each_crash_recovered(alloc, work)
 }
 
 /// Returns all tables of a desk in memory, as text, after the batch `SET` and each number of the
@@ -417,23 +330,38 @@ pub fn batch_execution_recovers_from_crashes(alloc: Global) -> Result<(), Fail> 
     let batch = format_batch(alloc, &ROWS)?;
     let tables = tables_after_each_row(alloc)?;
     let start = files_with_reference_data(alloc)?;
-    let work = Work::Batch {
+    let work = Work {
         start: &start,
-        batch: batch.as_str(),
-        tables: &tables,
+        first: batch.as_bytes(),
+        again: batch.as_bytes(),
+        wanted: Wanted::Batch(&tables),
     };
     expect_each_crash_recovered(alloc, work)
 }
 
-// Upgrades a desk that the SQL statements `change` convert to an older schema, with each crash of
-// `STOPS` at each call of its file, and checks each recovery (`expect_upgrade_crash_recovered`).
-// Fails if the desk does not recover, if a run without a crash is not reached within `MOST_CALLS`
-// runs, if the statements fail, if the tables cannot be read, or if memory runs out.
+// Executes the first three trades of `worked::ROWS` as a batch on a desk in files after the batch
+// `SET`. Returns the observation of the batch and the files after it. Does not check that the
+// batches complete. Fails only if memory runs out.
+fn files_after_trades(alloc: Global) -> Result<Sent, Fail> {
+    let batch = format_batch(alloc, &worked::ROWS[..6])?;
+    let set = files_with_reference_data(alloc)?;
+    run_batch_until_crash(alloc, &set, MachineCrash::NEVER, batch.as_bytes())
+}
+
+// Upgrades a desk of three trades that the SQL statements `change` convert to an older schema, with
+// each crash of `STOPS` at each call of its file, and checks each recovery
+// (`expect_upgrade_completed`). Fails if the desk does not recover, if a run without a crash is not
+// reached within `MOST_CALLS` runs, if the statements fail, if the tables cannot be read, or if
+// memory runs out.
 fn expect_upgrade_recovered_at_each_call(alloc: Global, change: &str) -> Result<(), Fail> {
-    let (start, tables) = files_of_older_schema(alloc, change)?;
-    let work = Work::Upgrade {
+    let Sent { seen, held, .. } = files_after_trades(alloc)?;
+    let tables = seen.into_tables()?;
+    let start = files_after_sql(alloc, &held, change)?;
+    let work = Work {
         start: &start,
-        tables: tables.as_str(),
+        first: NO_ROWS,
+        again: NO_ROWS,
+        wanted: Wanted::Upgrade(tables.as_str()),
     };
     expect_each_crash_recovered(alloc, work)
 }
@@ -450,27 +378,22 @@ pub fn upgrade_from_schema_2_recovers_from_crashes(alloc: Global) -> Result<(), 
     expect_upgrade_recovered_at_each_call(alloc, SECOND)
 }
 
-// Executes a batch on the desk in the files `held`, and returns the files after it. Fails with
-// `name` if the batch does not write exactly the lines `lines`, or if the audit after it fails, and
-// without it if memory runs out.
+// Executes a batch on the desk in the files `held`, which has accepted its first `booked` rows, and
+// returns the files after it. Fails with `name` if the batch does not write exactly the lines of
+// `lines_of_retry`, or if the audit after it fails, and without it if memory runs out.
 fn expect_batch_result_in_files(
     alloc: Global,
     held: &Held,
     name: &str,
-    batch: &str,
-    lines: &str,
+    batch: &[u8],
+    lines: &[&str],
+    booked: usize,
 ) -> Result<Held, Fail> {
-    let Sent { seen, held, .. } = run_batch_until_crash(
-        alloc,
-        held,
-        MachineCrash::NEVER,
-        batch.as_bytes(),
-    )?;
-    if seen.is_sound && seen.lines.as_slice() == lines.as_bytes() {
-        Ok(held)
-    } else {
-        Err(Fail::new(format_args!("{name}: the lines, or the audit")))
-    }
+    let wanted = lines_of_retry(alloc, lines, booked)?;
+    let Sent { seen, held, .. } = run_batch_until_crash(alloc, held, MachineCrash::NEVER, batch)?;
+    let is_so = seen.is_sound && seen.lines.as_slice() == wanted.as_bytes();
+    expect(is_so, format_args!("{name}: the lines, or the audit"))?;
+    Ok(held)
 }
 
 // Executes the rows as a batch on a desk in files after the batch `SET`, opens the files again and
@@ -484,11 +407,10 @@ fn expect_stored_replies_after_reopening(
     lines: &[&str],
 ) -> Result<(), Fail> {
     let batch = format_batch(alloc, rows)?;
-    let told = lines_of_retry(alloc, lines, 0)?;
-    let again = lines_of_retry(alloc, lines, lines.len())?;
+    let input = batch.as_bytes();
     let set = files_with_reference_data(alloc)?;
-    let held = expect_batch_result_in_files(alloc, &set, name, batch.as_str(), told.as_str())?;
-    expect_batch_result_in_files(alloc, &held, name, batch.as_str(), again.as_str())?;
+    let held = expect_batch_result_in_files(alloc, &set, name, input, lines, 0)?;
+    expect_batch_result_in_files(alloc, &held, name, input, lines, lines.len())?;
     Ok(())
 }
 

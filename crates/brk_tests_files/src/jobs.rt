@@ -13,6 +13,7 @@ use brk_tests_desks::statements::Asked;
 use brk_tests_desks::tables::read_all_tables;
 use sqlite::{Alter, Connection};
 use std::alloc::Global;
+use std::test::Fail;
 
 /// A task of a desk.
 #[derive(Clone, Copy)]
@@ -73,6 +74,16 @@ impl Observation {
             ended: Ended::NotBegun,
             is_sound: false,
             after: String::new(alloc),
+        }
+    }
+
+    /// Returns all tables after the job as text. Fails if they could not be read.
+    pub fn into_tables(self) -> Result<String, Fail> {
+        let Observation { after, .. } = self;
+        if after.is_empty() {
+            Err(Fail::new("tables that could not be read"))
+        } else {
+            Ok(after)
         }
     }
 }

@@ -2,6 +2,7 @@
 //! stores the bytes that were not synced, and restarts.
 
 use crate::jobs::{Ended, Job, Observation, Task, perform_job};
+use brk_tests_desks::expect;
 use brk_tests_desks::worked::SET;
 use sqlite::{Connection, FileStore, Files, Options};
 use sqlite_disk::{Crash, Disk, Fuse, Memory};
@@ -72,6 +73,13 @@ impl Held {
             log: Vec::new(alloc),
             db: Vec::new(alloc),
         }
+    }
+
+    /// Returns a copy of the files. Fails only if memory runs out.
+    pub fn copy(&self) -> Result<Held, AllocError> {
+        let log = self.log.clone()?;
+        let db = self.db.clone()?;
+        Ok(Held { log, db })
     }
 }
 
@@ -273,8 +281,6 @@ pub fn files_after_sql(alloc: Global, held: &Held, text: &str) -> Result<Held, F
         Job::Sql,
         text.as_bytes(),
     )?;
-    match seen.ended {
-        Ended::Done => Ok(held),
-        _ => Err("a change that fails")?,
-    }
+    expect(matches!(seen.ended, Ended::Done), "a change that fails")?;
+    Ok(held)
 }

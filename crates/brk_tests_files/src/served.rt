@@ -1,8 +1,7 @@
 //! Test of a service whose file fails: if the fault closes the store, the file is opened again
 //! before the next stream, or the service ends.
 
-use crate::crashes::{STOPS, fail_unless, tables_after_each_row};
-use crate::jobs::Observation;
+use crate::crashes::{STOPS, expect_committed_rows, fail_unless, tables_after_each_row};
 use crate::machine::{
     CACHED_PAGES, Held, MachineCrash, close_database, files_after_crash, files_failing_at_crash,
     files_with_reference_data, open_database, options_with_cached_pages, run_batch_until_crash,
@@ -19,8 +18,9 @@ use sqlite::{Alter, Connection, FileStore, Files};
 use sqlite_disk::{Fuse, Memory};
 use std::alloc::{AllocError, Global};
 use std::cell::Cell;
+use std::io;
 use std::io::{Read, Write};
-use std::net::{Shutdown, TcpListener, TcpStream};
+use std::net::{Shutdown, SocketAddr, TcpListener, TcpStream};
 use std::test::Fail;
 
 // The number of streams of a service. Each of them sends a query and then all rows of `ROWS`.
@@ -35,6 +35,10 @@ const STEP: u64 = 13;
 
 // A number of faults that is greater than that of each file in each service.
 const MOST_FAULTS: u64 = 2_000;
+
+type FileConnection = Connection<FileStore<Fuse<Memory>>>;
+
+type FileDesk = Store<FileStore<Fuse<Memory>>>;
 
 // The two files of a desk in memory: the bytes that they have while they are closed, how they fail
 // when they are opened next, and at all later times, and how often they were opened.
@@ -72,6 +76,18 @@ impl FailingFiles {
             self.held.set(held);
         }
     }
+
+    // Adopts the desk in the database of the files. Closes the files and stores their bytes if that
+    // fails, and returns the fault.
+    fn adopt(&self, conn: FileConnection) -> Result<FileDesk, Fault> {
+        match adopt_store(self.alloc, conn) {
+            Ok(store) => Ok(store),
+            Err((conn, fault)) => {
+                self.store_files(close_database(conn));
+                Err(fault)
+            }
+        }
+    }
 }
 
 fn adopt_store<S: Alter + Drop>(
@@ -86,7 +102,7 @@ fn connection_of_store<S: Alter + Drop>(store: Store<S>) -> Connection<S> {
 }
 
 impl DeskFiles for FailingFiles {
-    type Desk = Store<FileStore<Fuse<Memory>>>;
+    type Desk = FileDesk;
 
     ghost opens_or_creates = { λ _ _. Unit {0} };
 
@@ -104,13 +120,7 @@ impl DeskFiles for FailingFiles {
         self.openings.set(self.openings.get().saturating_add(1));
         let files = files_failing_at_crash(self.alloc, &held, stop)?;
         match open_database(self.alloc, files, options_with_cached_pages(CACHED_PAGES)) {
-            Ok(conn) => match adopt_store(self.alloc, conn) {
-                Ok(store) => Ok(store),
-                Err((conn, fault)) => {
-                    self.store_files(close_database(conn));
-                    Err(fault)
-                }
-            },
+            Ok(conn) => self.adopt(conn),
             Err(files) => {
                 self.store_files(files);
                 Err(Fault::Store)
@@ -134,31 +144,47 @@ impl DeskFiles for FailingFiles {
 
 // Returns the JSON list of the fields of a row. Fails only if memory runs out.
 fn json_of_row(alloc: Global, row: &str) -> Result<String, AllocError> {
-    let mut json = String::from_str(alloc, "[")?;
-    for field in row.split(',') {
-        if json.len() > 1 {
-            json.push(',')?;
-        }
-        json.push('"')?;
-        json.push_str(field)?;
-        json.push('"')?;
-    }
-    json.push(']')?;
-    Ok(json)
+    let fields = row.replace(alloc, ',', "\",\"")?;
+    format!(in alloc; "[\"{fields}\"]")
+}
+
+// Appends the text of the request for a row, under the key with this number of the batch of
+// `format_batch`. Fails only if memory runs out.
+fn append_row_request(
+    alloc: Global,
+    requests: &mut String,
+    number: u64,
+    row: &str,
+) -> Result<(), AllocError> {
+    let target = format!(in alloc; "/rows/T/{number}")?;
+    let body = json_of_row(alloc, row)?;
+    let request = format_post_request(alloc, target.as_str(), body.as_str())?;
+    requests.push_str(request.as_str())
 }
 
 // Returns the text of a request for the last trades of account 100, and of one for each row of
 // `ROWS`, under the keys of the batch of `format_batch`. Fails only if memory runs out.
-fn requests_of_stream(alloc: Global) -> Result<String, Fail> {
+fn requests_of_stream(alloc: Global) -> Result<String, AllocError> {
     let mut requests = format_post_request(alloc, "/ask/recent", "[\"100\"]")?;
     let mut number = 1u64;
     for row in ROWS {
-        let target = format!(in alloc; "/rows/T/{number}")?;
-        let body = json_of_row(alloc, row)?;
-        requests.push_str(format_post_request(alloc, target.as_str(), body.as_str())?.as_str())?;
+        append_row_request(alloc, &mut requests, number, row)?;
         number = number.saturating_add(1);
     }
     Ok(requests)
+}
+
+// Connects a peer to an address, and sends `requests`. Fails if it cannot connect, send or shut
+// down.
+fn connect_peer_and_send(
+    rt: &HostRuntime,
+    address: SocketAddr,
+    requests: &str,
+) -> io::Result<TcpStream> {
+    let mut peer = TcpStream::connect(rt, address)?;
+    peer.write_all(requests.as_bytes())?;
+    peer.shutdown(Shutdown::Write)?;
+    Ok(peer)
 }
 
 // Connects a peer to the listener for each stream, and sends `requests` on it. Fails if a peer
@@ -171,10 +197,7 @@ fn connect_peers_and_send(
     let address = listener.local_addr()?;
     let mut peers = Vec::new(rt.alloc());
     for _ in 0..STREAMS {
-        let mut peer = TcpStream::connect(rt, address)?;
-        peer.write_all(requests.as_bytes())?;
-        peer.shutdown(Shutdown::Write)?;
-        peers.push(peer)?;
+        peers.push(connect_peer_and_send(rt, address, requests)?)?;
     }
     Ok(peers)
 }
@@ -193,16 +216,20 @@ fn count_replies_200(told: &[u8]) -> usize {
     count
 }
 
-// Returns the number of replies 200 that each peer receives. A stream that was not accepted has
-// none. Fails only if memory runs out.
+// Returns the number of replies 200 that a peer receives. A connection that the service resets,
+// because it did not read all requests, keeps the replies before; one that was not accepted has
+// none.
+fn replies_200_of_peer(alloc: Global, mut peer: TcpStream) -> usize {
+    let mut told = Vec::new(alloc);
+    let _ = peer.read_to_end(&mut told);
+    count_replies_200(&told)
+}
+
+// Returns the number of replies 200 that each peer receives. Fails only if memory runs out.
 fn replies_200_of_peers(alloc: Global, peers: Vec<TcpStream>) -> Result<Vec<usize>, Fail> {
     let mut counts = Vec::new(alloc);
     for peer in peers {
-        let (mut peer, mut told) = (peer, Vec::new(alloc));
-        // a connection that the service resets, because it did not read all requests, keeps the
-        // replies before
-        let _ = peer.read_to_end(&mut told);
-        counts.push(count_replies_200(told.as_slice()))?;
+        counts.push(replies_200_of_peer(alloc, peer))?;
     }
     Ok(counts)
 }
@@ -219,36 +246,71 @@ fn serve_streams_on_files<S: Alter, F: DeskFiles<Desk = Store<S>>>(
     )
 }
 
-// Opens the files and serves `STREAMS` streams on the desk in them. Returns the ending, and the
-// number of replies 200 of each stream; or `None` if the files cannot be opened. Fails if a socket
-// of this machine cannot be used, or if memory runs out.
-fn serve_rows(
-    rt: &HostRuntime,
-    files: &FailingFiles,
-    requests: &str,
-) -> Result<Option<(Ending, Vec<usize>)>, Fail> {
-    let Ok(store) = files.open("desk.db") else {
-        return Ok(None);
-    };
-    let listener = TcpListener::bind(rt, ("127.0.0.1", 0))?;
-    let peers = connect_peers_and_send(rt, &listener, requests)?;
-    let ending = serve_streams_on_files(rt.alloc(), files, &listener, store);
-    drop(listener);
-    Ok(Some((ending, replies_200_of_peers(rt.alloc(), peers)?)))
+// How a service ended.
+#[derive(Clone, Copy)]
+enum ServiceEnd {
+    Done,
+    StoreFault,
+    OtherFault,
 }
 
-// What a service did: its ending, the number of replies 200 of each stream, and how often its files
-// were opened.
+fn service_end(ending: Ending) -> ServiceEnd {
+    match ending {
+        Ending::Done => ServiceEnd::Done,
+        Ending::Open(Fault::Store) => ServiceEnd::StoreFault,
+        _ => ServiceEnd::OtherFault,
+    }
+}
+
+// Opens the files, serves `STREAMS` streams on the desk in them, and closes the listener. Returns
+// how the service ended, or `None` if the files cannot be opened.
+fn open_files_and_serve(
+    alloc: Global,
+    files: &FailingFiles,
+    listener: TcpListener,
+) -> Option<ServiceEnd> {
+    match files.open("desk.db") {
+        Ok(store) => Some(service_end(serve_streams_on_files(alloc, files, &listener, store))),
+        Err(_) => None,
+    }
+}
+
+// What a service did: how it ended, the number of replies 200 of each stream, and how often its
+// files were opened.
 #[derive(Drop)]
 struct Served {
-    ending: Ending,
+    end: ServiceEnd,
     counts: Vec<usize>,
     openings: u64,
 }
 
+// Opens the files and serves `STREAMS` streams on the desk in them. Returns what the service did, or
+// `None` if the files cannot be opened. Fails if a socket of this machine cannot be used, or if
+// memory runs out.
+fn serve_rows(
+    rt: &HostRuntime,
+    files: &FailingFiles,
+    requests: &str,
+) -> Result<Option<Served>, Fail> {
+    let listener = TcpListener::bind(rt, ("127.0.0.1", 0))?;
+    let peers = connect_peers_and_send(rt, &listener, requests)?;
+    let Some(end) = open_files_and_serve(rt.alloc(), files, listener) else {
+        return Ok(None);
+    };
+    Ok(Some(Served {
+        end,
+        openings: files.openings.get(),
+        counts: replies_200_of_peers(rt.alloc(), peers)?,
+    }))
+}
+
 impl Served {
     fn ended_with_store_fault(&self) -> bool {
-        matches!(&self.ending, Ending::Open(Fault::Store))
+        matches!(self.end, ServiceEnd::StoreFault)
+    }
+
+    fn is_done(&self) -> bool {
+        matches!(self.end, ServiceEnd::Done)
     }
 
     fn was_reopened(&self) -> bool {
@@ -257,8 +319,7 @@ impl Served {
 
     // Returns true if the files were opened once, and the last stream has all replies.
     fn had_no_fault(&self) -> bool {
-        let is_done = matches!(&self.ending, Ending::Done);
-        is_done && !self.was_reopened() && self.last_has_all_replies()
+        self.is_done() && !self.was_reopened() && self.last_has_all_replies()
     }
 
     fn last_has_all_replies(&self) -> bool {
@@ -276,6 +337,18 @@ impl Served {
         }
         most
     }
+
+    // Returns true if each stream after that of the fault has a reply.
+    fn has_replies_after_fault(&self) -> bool {
+        let mut had_fault = false;
+        for count in &self.counts {
+            if had_fault && *count == 0 {
+                return false;
+            }
+            had_fault = had_fault || *count < ALL_REPLIES;
+        }
+        true
+    }
 }
 
 // Checks that each stream after that of the fault has a reply to its query, since its store is open:
@@ -283,42 +356,19 @@ impl Served {
 // because the files that were opened again failed (`goes_on`). Otherwise the last stream after an
 // opening has all replies. Fails if not all of this is so.
 fn expect_streams_served(stop: MachineCrash, goes_on: bool, served: &Served) -> Result<(), Fail> {
-    let may_end = goes_on && served.was_reopened() && served.ended_with_store_fault();
+    let is_fault = served.ended_with_store_fault();
+    fail_unless(is_fault || served.is_done(), stop, "another ending")?;
+    let may_end = goes_on && served.was_reopened() && is_fault;
     fail_unless(
-        served.ended_with_store_fault() || matches!(&served.ending, Ending::Done),
+        may_end || served.has_replies_after_fault(),
         stop,
-        "another ending",
+        "a closed store was served",
     )?;
-    let mut had_fault = false;
-    for count in &served.counts {
-        let may_be = *count > 0 || may_end || !had_fault;
-        fail_unless(may_be, stop, "a closed store was served")?;
-        had_fault = had_fault || *count < ALL_REPLIES;
-    }
     fail_unless(
         goes_on || !served.was_reopened() || served.last_has_all_replies(),
         stop,
         "an opened file was not served",
     )
-}
-
-// Checks that the tables before the batch are those after `accepted` rows, or after one row more.
-// Returns this number of rows. Fails if they are neither.
-fn expect_tables_after_rows(
-    stop: MachineCrash,
-    seen: &Observation,
-    accepted: usize,
-    tables: &[String],
-) -> Result<usize, Fail> {
-    for rows in [accepted, accepted.saturating_add(1)] {
-        if let Some(text) = tables.get(rows) {
-            if text.as_str() == seen.before.as_str() {
-                return Ok(rows);
-            }
-        }
-    }
-    fail_unless(false, stop, "tables of other rows")?;
-    Ok(accepted)
 }
 
 // Checks that the files have the rows that were accepted, or one row more, and that the batch of
@@ -333,11 +383,20 @@ fn expect_batch_completed(
     tables: &[String],
 ) -> Result<(), Fail> {
     let batch = format_batch(alloc, &ROWS)?;
-    let seen = run_batch_until_crash(alloc, held, MachineCrash::NEVER, batch.as_bytes())?.seen;
-    let rows = expect_tables_after_rows(stop, &seen, accepted, tables)?;
+    let sent = run_batch_until_crash(alloc, held, MachineCrash::NEVER, batch.as_bytes())?;
+    let rows = expect_committed_rows(stop, accepted, sent.seen.before.as_str(), tables)?;
     let lines = all_lines_of_retry(alloc, rows)?;
-    let is_completed = seen.is_sound && seen.lines.as_slice() == lines.as_bytes();
+    let is_completed = sent.seen.is_sound && sent.seen.lines.as_slice() == lines.as_bytes();
     fail_unless(is_completed, stop, "the batch is not completed")
+}
+
+// The desk that a service begins with, the requests of each stream, and the tables after each number
+// of their rows, from none on.
+#[derive(Clone, Copy)]
+struct Service<'a> {
+    start: &'a Held,
+    requests: &'a str,
+    tables: &'a [String],
 }
 
 // Serves `STREAMS` streams on the desk in the files, and checks what `expect_streams_served` checks.
@@ -349,16 +408,10 @@ fn expect_rows_served(
     stop: MachineCrash,
     goes_on: bool,
     files: &FailingFiles,
+    requests: &str,
 ) -> Result<(usize, bool), Fail> {
-    let requests = requests_of_stream(rt.alloc())?;
-    match serve_rows(rt, files, requests.as_str())? {
-        Some((ending, counts)) => {
-            let openings = files.openings.get();
-            let served = Served {
-                ending,
-                counts,
-                openings,
-            };
+    match serve_rows(rt, files, requests)? {
+        Some(served) => {
             expect_streams_served(stop, goes_on, &served)?;
             Ok((served.accepted_rows(), served.had_no_fault()))
         }
@@ -375,21 +428,16 @@ fn expect_service_recovered(
     rt: &HostRuntime,
     stop: MachineCrash,
     goes_on: bool,
-    start: &Held,
-    tables: &[String],
+    service: Service<'_>,
 ) -> Result<bool, Fail> {
-    let alloc = rt.alloc();
     let later = MachineCrash {
         calls: if goes_on { 0 } else { u64::MAX },
         ..stop
     };
-    let held = Held {
-        log: start.log.clone()?,
-        db: start.db.clone()?,
-    };
-    let files = FailingFiles::new(alloc, held, stop, later);
-    let (accepted, is_done) = expect_rows_served(rt, stop, goes_on, &files)?;
-    expect_batch_completed(alloc, stop, &files.into_held(), accepted, tables)?;
+    let files = FailingFiles::new(rt.alloc(), service.start.copy()?, stop, later);
+    let (accepted, is_done) = expect_rows_served(rt, stop, goes_on, &files, service.requests)?;
+    let held = files.into_held();
+    expect_batch_completed(rt.alloc(), stop, &held, accepted, service.tables)?;
     Ok(is_done)
 }
 
@@ -401,17 +449,31 @@ fn expect_each_service_recovered(
     stop: MachineCrash,
     first: u64,
     goes_on: bool,
-    start: &Held,
-    tables: &[String],
+    service: Service<'_>,
 ) -> Result<(), Fail> {
     for number in 0..MOST_FAULTS {
         let calls = number.saturating_mul(STEP).saturating_add(first);
         let stop = MachineCrash { calls, ..stop };
-        if expect_service_recovered(rt, stop, goes_on, start, tables)? {
+        if expect_service_recovered(rt, stop, goes_on, service)? {
             return Ok(());
         }
     }
-    Err("always stopped")?
+    Err(Fail::new("always stopped"))
+}
+
+// Checks the service with each failure of `STOPS` (`expect_each_service_recovered`). The first call
+// that fails differs, and the files go on to fail for every second one.
+fn expect_service_recovered_from_each_stop(
+    rt: &HostRuntime,
+    service: Service<'_>,
+) -> Result<(), Fail> {
+    let (mut first, mut goes_on) = (0u64, false);
+    for stop in STOPS {
+        expect_each_service_recovered(rt, stop, first, goes_on, service)?;
+        first = first.saturating_add(1);
+        goes_on = !goes_on;
+    }
+    Ok(())
 }
 
 /// Checks the service of a desk in files that serves a query and all rows of `ROWS` on each of
@@ -422,14 +484,13 @@ fn expect_each_service_recovered(
 /// `Open(Store)`. In both cases the desk in the files has all rows that were accepted, or one row
 /// more, and its batch can be completed.
 pub fn a_served_desk_recovers_from_disk_faults(rt: &HostRuntime) -> Result<(), Fail> {
-    let alloc = rt.alloc();
-    let tables = tables_after_each_row(alloc)?;
-    let start = files_with_reference_data(alloc)?;
-    let (mut first, mut goes_on) = (0u64, false);
-    for stop in STOPS {
-        expect_each_service_recovered(rt, stop, first, goes_on, &start, &tables)?;
-        first = first.saturating_add(1);
-        goes_on = !goes_on;
-    }
-    Ok(())
+    let requests = requests_of_stream(rt.alloc())?;
+    let tables = tables_after_each_row(rt.alloc())?;
+    let start = files_with_reference_data(rt.alloc())?;
+    let service = Service {
+        start: &start,
+        requests: requests.as_str(),
+        tables: &tables,
+    };
+    expect_service_recovered_from_each_stop(rt, service)
 }

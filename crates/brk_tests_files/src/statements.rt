@@ -1,12 +1,12 @@
 //! Test of a disk that fails within a statement, at each of its calls: whole first lines are
 //! written, and never the last one.
 
-use crate::jobs::{Ended, Job, Observation, Task};
+use crate::jobs::{Ended, Job, Task};
 use crate::machine::{
     Held, MachineCrash, Sent, options_with_cached_pages, perform_job_until_crash,
     run_batch_until_crash,
 };
-use brk_tests_desks::desks::expect;
+use brk_tests_desks::expect;
 use brk_tests_desks::statements::account_and_days;
 use std::alloc::Global;
 use std::test::Fail;
@@ -42,25 +42,17 @@ const WANTED: &[u8] = b"Statement of account 100\n\
     Holdings                  1500.00\n\
     Cash rows 3, lots 1\n";
 
-// Writes the statement of account 100 for March 2024 on the desk in the files `held`, whose
-// database file accepts `calls` calls and fails at each later call. Returns the observation. Fails
-// only if memory runs out.
-fn write_statement_over_failing_disk(
-    alloc: Global,
-    held: &Held,
-    calls: u64,
-) -> Result<Observation, Fail> {
-    let asked = account_and_days(100, "2024-03-01", "2024-03-31")?;
-    // The desk caches one page, so that rows are read from the disk.
-    let Sent { seen, .. } = perform_job_until_crash(
-        alloc,
-        held,
-        MachineCrash::after_database_calls(calls),
-        options_with_cached_pages(1),
-        Job::Desk(Task::Statement(asked)),
-        b"",
-    )?;
-    Ok(seen)
+// What a statement over a failing disk wrote.
+#[derive(Clone, Copy)]
+enum Written {
+    // Nothing: the desk could not be opened.
+    NotBegun,
+    // Nothing, before the fault of the store.
+    NoLine,
+    // A first part of its lines, before the fault of the store.
+    SomeLines,
+    // All its lines.
+    AllLines,
 }
 
 // Returns true if a text consists of the first whole lines of the statement `WANTED`, perhaps none,
@@ -70,34 +62,58 @@ fn is_proper_line_prefix_of_statement(text: &[u8]) -> bool {
     is_whole && text.len() < WANTED.len() && WANTED.starts_with(text)
 }
 
+// Returns what a statement that ended so wrote, the text `text`. Returns `None` if a complete
+// statement is not `WANTED`, if one that failed with a fault of the store wrote other lines than
+// whole first ones of it, or all of them, and for any other end.
+fn written_lines(ended: Ended, text: &[u8]) -> Option<Written> {
+    match ended {
+        Ended::NotBegun => Some(Written::NotBegun),
+        Ended::Done if text == WANTED => Some(Written::AllLines),
+        Ended::StoreFault if text.is_empty() => Some(Written::NoLine),
+        Ended::StoreFault if is_proper_line_prefix_of_statement(text) => Some(Written::SomeLines),
+        _ => None,
+    }
+}
+
+// Writes the statement of account 100 for March 2024 on the desk in the files `held`, whose
+// database file accepts `calls` calls and fails at each later call. Returns what it wrote. Fails if
+// this is wrong (`written_lines`), and if memory runs out.
+fn write_statement_over_failing_disk(
+    alloc: Global,
+    held: &Held,
+    calls: u64,
+) -> Result<Written, Fail> {
+    let asked = account_and_days(100, "2024-03-01", "2024-03-31")?;
+    // The desk caches one page, so that rows are read from the disk.
+    let sent = perform_job_until_crash(
+        alloc,
+        held,
+        MachineCrash::after_database_calls(calls),
+        options_with_cached_pages(1),
+        Job::Desk(Task::Statement(asked)),
+        b"",
+    )?;
+    match written_lines(sent.seen.ended, &sent.seen.lines) {
+        Some(written) => Ok(written),
+        None => Err(Fail::new(format_args!("after {calls} calls"))),
+    }
+}
+
 // Checks the statement of a desk in the files `held` as
 // `a_failing_disk_leaves_whole_statement_lines` states. Fails if not, and if memory runs out.
 fn expect_whole_lines_over_failing_disk(alloc: Global, held: &Held) -> Result<(), Fail> {
-    let (mut faults, mut parts) = (0u64, 0u64);
+    let (mut had_part, mut had_none) = (false, false);
     for calls in 0..10_000 {
-        let seen = write_statement_over_failing_disk(alloc, held, calls)?;
-        let text = seen.lines.as_slice();
-        match seen.ended {
-            Ended::NotBegun => (),
-            Ended::Done => {
-                expect(text == WANTED, format_args!("after {calls} calls"))?;
-                return expect(
-                    parts > 0 && faults > parts,
-                    "no part, or no fault without one",
-                );
+        match write_statement_over_failing_disk(alloc, held, calls)? {
+            Written::NotBegun => (),
+            Written::NoLine => had_none = true,
+            Written::SomeLines => had_part = true,
+            Written::AllLines => {
+                return expect(had_part && had_none, "no part, or no fault without one");
             }
-            Ended::StoreFault => {
-                expect(
-                    is_proper_line_prefix_of_statement(text),
-                    format_args!("after {calls} calls"),
-                )?;
-                faults = faults.saturating_add(1);
-                parts = parts.saturating_add(u64::from(!text.is_empty()));
-            }
-            _ => expect(false, format_args!("after {calls} calls"))?,
         }
     }
-    Err("no statement was whole")?
+    Err(Fail::new("no statement was whole"))
 }
 
 /// Checks, for a database file that fails after 0, 1, 2 and more calls, that the desk cannot be

@@ -1,48 +1,58 @@
 //! Test of a stream of requests over a store that fails: the reply to a row is the last one.
 
 use crate::jobs::{Ended, Job, Observation, Task};
-use crate::machine::{Held, MachineCrash, Sent, perform_job_until_crash};
+use crate::machine::{Held, MachineCrash, perform_job_until_crash};
 use brk_tests_desks::expect;
-use brk_tests_desks::requests::{WantedReply, format_post_request, format_wanted_reply};
 use sqlite::Options;
-use std::alloc::{AllocError, Global};
+use std::alloc::Global;
 use std::test::Fail;
 
-// Serves a stream on a new desk in files whose log accepts `calls` calls and fails at each later
-// call. Returns the observation, whose outcome is `NotBegun` if the database cannot be opened or
-// the desk cannot be created. Fails only if memory runs out.
-fn serve_with_failing_log(alloc: Global, calls: u64, input: &[u8]) -> Result<Observation, Fail> {
-    let Sent { seen, .. } = perform_job_until_crash(
+// Two requests, a row that adds broker 1 and a query for the submitted trades.
+const REQUESTS: &[u8] = b"POST /rows/F/1 HTTP/1.1\r\nHost: desk\r\nContent-Length: 19\r\n\r\n\
+    [\"broker\",\"1\",\"Bo\"]\
+    POST /ask/submitted HTTP/1.1\r\nHost: desk\r\nContent-Length: 2\r\n\r\n[]";
+
+// The replies to them on a new desk whose disk does not fail: the row is accepted, and the view has
+// no trades.
+const REPLIES: &[u8] =
+    b"HTTP/1.1 200 OK\r\nContent-Type: application/json\r\nContent-Length: 24\r\n\r\n\
+    {\"ok\":[\"1709251200000\"]}\
+    HTTP/1.1 200 OK\r\nContent-Type: application/json\r\nContent-Length: 11\r\n\r\n\
+    {\"view\":[]}";
+
+// The reply to the row if the store fails, the last of the stream.
+const LAST_REPLY: &[u8] = b"HTTP/1.1 503 Service Unavailable\r\nContent-Type: application/json\r\n\
+    Content-Length: 17\r\nConnection: close\r\n\r\n{\"error\":\"store\"}";
+
+// Returns the number of replies of a stream of `REQUESTS`: none if the desk could not be opened or
+// created, one, `LAST_REPLY`, or two, `REPLIES`. Returns `None` for other replies, and for any other
+// end.
+fn count_replies(seen: &Observation) -> Option<u64> {
+    let lines = seen.lines.as_slice();
+    match seen.ended {
+        Ended::NotBegun => Some(0),
+        Ended::Served(1) if lines == LAST_REPLY => Some(1),
+        Ended::Served(2) if lines == REPLIES => Some(2),
+        _ => None,
+    }
+}
+
+// Serves a stream of `REQUESTS` on a new desk in files whose log accepts `calls` calls and fails at
+// each later call. Returns the number of its replies. Fails if the replies are wrong
+// (`count_replies`), and if memory runs out.
+fn serve_with_failing_log(alloc: Global, calls: u64) -> Result<u64, Fail> {
+    let sent = perform_job_until_crash(
         alloc,
         &Held::empty_files(alloc),
         MachineCrash::after_log_calls(calls),
         Options::new(1),
         Job::Desk(Task::Stream),
-        input,
+        REQUESTS,
     )?;
-    Ok(seen)
-}
-
-// Returns the text of two requests, a row that adds broker 1 and a query for the submitted trades.
-// Fails only if memory runs out.
-fn two_requests(alloc: Global) -> Result<String, AllocError> {
-    let mut input = format_post_request(alloc, "/rows/F/1", "[\"broker\",\"1\",\"Bo\"]")?;
-    input.push_str(format_post_request(alloc, "/ask/submitted", "[]")?.as_str())?;
-    Ok(input)
-}
-
-// Returns the text of the wanted replies to the requests of `two_requests` on a new desk whose disk
-// does not fail: the row is accepted, and the view has no trades. Fails only if memory runs out.
-fn replies_to_two_requests(alloc: Global) -> Result<String, AllocError> {
-    let mut replies = format_wanted_reply(
-        alloc,
-        WantedReply::Open("200 OK", "{\"ok\":[\"1709251200000\"]}"),
-    )?;
-    replies.push_str(format_wanted_reply(
-        alloc,
-        WantedReply::Open("200 OK", "{\"view\":[]}"),
-    )?.as_str())?;
-    Ok(replies)
+    match count_replies(&sent.seen) {
+        Some(replies) => Ok(replies),
+        None => Err(Fail::new(format_args!("after {calls} calls"))),
+    }
 }
 
 /// Checks, for a log that fails after 0, 1, 2 and more calls, that the reply to a row is 503 and
@@ -50,31 +60,13 @@ fn replies_to_two_requests(alloc: Global) -> Result<String, AllocError> {
 /// be with fewer than 1,000 calls. Numbers of calls with which the desk cannot be created are
 /// skipped. Checks also that at least one stream has the reply 503.
 pub fn a_store_fault_is_the_last_reply(alloc: Global) -> Result<(), Fail> {
-    let input = two_requests(alloc)?;
-    let wanted = format_wanted_reply(
-        alloc,
-        WantedReply::Last("503 Service Unavailable", "{\"error\":\"store\"}"),
-    )?;
-    let whole = replies_to_two_requests(alloc)?;
-    let mut faults = 0u64;
-    let mut booked = false;
+    let mut had_fault = false;
     for calls in 0..1_000 {
-        let seen = serve_with_failing_log(alloc, calls, input.as_bytes())?;
-        match seen.ended {
-            Ended::NotBegun => (),
-            Ended::Served(2) => {
-                booked = seen.lines.as_slice() == whole.as_bytes();
-                break;
-            }
-            Ended::Served(1) => {
-                expect(
-                    seen.lines.as_slice() == wanted.as_bytes(),
-                    format_args!("after {calls} calls"),
-                )?;
-                faults = faults.saturating_add(1);
-            }
-            _ => expect(false, format_args!("after {calls} calls"))?,
+        let replies = serve_with_failing_log(alloc, calls)?;
+        if replies == 2 {
+            return expect(had_fault, "no fault");
         }
+        had_fault = had_fault || replies == 1;
     }
-    expect(faults > 0 && booked, "no fault, or no reply")
+    Err(Fail::new("no reply"))
 }

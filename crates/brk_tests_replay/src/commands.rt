@@ -2,24 +2,25 @@
 //! database or desk on which they work. A function that fails may have appended a part of its
 //! lines.
 
-use crate::failed::OutOfMemory;
 use crate::files::execute_file_command;
 use crate::records::{
-    append_refusal_line, append_rows_of_all_tables, execute_ask_command, execute_print_command,
+    append_refusal_line, append_report, append_rows_of_all_tables, execute_ask_command,
+    execute_print_command,
 };
 use crate::replay::{Piece, append_escaped_output_lines, append_output_line};
 use crate::tests::{NamedTests, execute_test_command};
 use brk_desk::Desk;
-use brk_explain::{parse_explain, write_explanation};
+use brk_explain::{ExplainRequest, parse_explain, write_explanation};
 use brk_http::serve_stream;
 use brk_import::{Clock, FaultKind, run_batch};
-use brk_money::{Fault, Refusal, Stamp, parse_day};
+use brk_money::{Day, Fault, Id, Refusal, Stamp, parse_day};
 use brk_ref::{parse_id, parse_stamp};
+use brk_report::statement;
 use brk_report::statements::several::statements;
-use brk_report::{ReportFault, StatementFault, statement};
 use brk_store::Store;
 use sqlite::{Connection, MemStore};
 use std::alloc::{AllocError, Global};
+use std::mem;
 
 /// The database or the desk that a transcript has open.
 #[derive(Drop)]
@@ -54,24 +55,39 @@ impl Place {
         }
     }
 
-    /// Returns the connection to the open database, without its desk, or `None` if nothing is open.
-    pub fn into_conn(self) -> Option<Connection<MemStore>> {
-        match self {
+    // Returns the connection to the open database, without its desk, or `None` if nothing is open.
+    // Nothing is open after it.
+    fn take_conn(&mut self) -> Option<Connection<MemStore>> {
+        match mem::replace(self, Place::Nothing) {
             Place::Nothing => None,
             Place::Database(conn) => Some(conn),
             Place::Open(desk) => Some(desk.into_store().into_conn()),
         }
     }
-}
 
-/// Adopts the database of a connection, which upgrades an older schema. Returns its desk and `Ok`
-/// if the adoption succeeds, and otherwise the database without a desk and the fault: `Damaged`
-/// with the first condition that fails, `Memory` or `Store`. A database that is still open is
-/// unchanged after a fault.
-pub fn adopt_database(alloc: Global, conn: Connection<MemStore>) -> (Place, Result<(), Fault>) {
-    match Store::adopt(alloc, conn) {
-        Ok(store) => (Place::Open(Desk::new(store)), Ok(())),
-        Err((conn, fault)) => (Place::Database(conn), Err(fault)),
+    // Keeps the open database without its desk.
+    fn close_desk(&mut self) {
+        if let Some(conn) = self.take_conn() {
+            *self = Place::Database(conn);
+        }
+    }
+
+    // Adopts the open database, or that of the open desk, which upgrades an older schema. The desk
+    // of the database is open after it or, after a fault, the database without a desk. Returns `Ok`
+    // if the adoption succeeds, and otherwise the fault: `Damaged` with the first condition that
+    // fails, `Memory` or `Store`. Returns `None` if nothing is open. A database that is still open
+    // is unchanged after a fault.
+    fn adopt(&mut self, alloc: Global) -> Option<Result<(), Fault>> {
+        match Store::adopt(alloc, self.take_conn()?) {
+            Ok(store) => {
+                *self = Place::Open(Desk::new(store));
+                Some(Ok(()))
+            }
+            Err((conn, fault)) => {
+                *self = Place::Database(conn);
+                Some(Err(fault))
+            }
+        }
     }
 }
 
@@ -133,7 +149,7 @@ fn execute_batch_command(
     desk: &mut Desk<MemStore>,
     moment: &str,
     input: &[u8],
-) -> Result<(), OutOfMemory> {
+) -> Result<(), AllocError> {
     let mut lines = Vec::new(alloc);
     let ended = run_batch(
         alloc,
@@ -143,10 +159,10 @@ fn execute_batch_command(
         desk,
     );
     append_escaped_output_lines(out, &lines)?;
-    if let Err(fault) = ended {
-        writeln!(out, "> ! {} {}", batch_fault_text(fault.kind), fault.rows)?;
+    match ended {
+        Ok(_) => Ok(()),
+        Err(fault) => writeln!(out, "> ! {} {}", batch_fault_text(fault.kind), fault.rows),
     }
-    Ok(())
 }
 
 // Serves the input as a stream of HTTP requests on the desk; the clock always returns the timestamp
@@ -158,7 +174,7 @@ fn execute_http_command(
     desk: &mut Desk<MemStore>,
     moment: &str,
     input: &[u8],
-) -> Result<(), OutOfMemory> {
+) -> Result<(), AllocError> {
     let mut replies = Vec::new(alloc);
     let ended = serve_stream(
         alloc,
@@ -169,10 +185,15 @@ fn execute_http_command(
     );
     append_escaped_output_lines(out, &replies)?;
     match ended {
-        Ok(done) => writeln!(out, "> ! done {done}")?,
-        Err(_) => append_output_line(out, "! fault")?,
+        Ok(done) => writeln!(out, "> ! done {done}"),
+        Err(_) => append_output_line(out, "! fault"),
     }
-    Ok(())
+}
+
+// Returns the first and the last day of a statement from their texts, or `None` if one of them is
+// malformed.
+fn parse_days(from: &str, to: &str) -> Option<(Day, Day)> {
+    Some((parse_day(from.as_bytes())?, parse_day(to.as_bytes())?))
 }
 
 // Writes the statement of an account: `words` contains the id of the account and the first and the
@@ -184,30 +205,26 @@ fn execute_statement_command(
     out: &mut String,
     desk: &mut Desk<MemStore>,
     words: &str,
-) -> Result<(), OutOfMemory> {
+) -> Result<(), AllocError> {
     let (account, days) = words.split_once(' ').unwrap_or((words, ""));
     let (from, to) = days.split_once(' ').unwrap_or((days, ""));
-    let (Some(account), Some(from), Some(to)) = (
-        parse_id(account.as_bytes()),
-        parse_day(from.as_bytes()),
-        parse_day(to.as_bytes()),
-    ) else {
-        return append_refusal_line(out, Refusal::BadText);
-    };
-    let mut lines = Vec::new(alloc);
-    let ended = statement(alloc, desk, account, from, to, &mut lines);
-    append_escaped_output_lines(out, &lines)?;
-    append_ending_of_statement(out, ended)
+    match (parse_id(account.as_bytes()), parse_days(from, to)) {
+        (Some(account), Some((from, to))) => {
+            let mut lines = Vec::new(alloc);
+            let ended = statement(alloc, desk, account, from, to, &mut lines);
+            append_report(out, &lines, ended)
+        }
+        _ => append_refusal_line(out, Refusal::BadText),
+    }
 }
 
-fn append_ending_of_statement(
-    out: &mut String,
-    ended: Result<(), StatementFault>,
-) -> Result<(), OutOfMemory> {
-    match ended {
-        Ok(()) => Ok(()),
-        Err(ReportFault::Refused(refusal)) => append_refusal_line(out, refusal),
-        Err(_) => append_output_line(out, "! fault"),
+// Returns the customer with the id in a text, or no customer for an empty text, or `None` if the
+// text is malformed.
+fn parse_customer(text: &str) -> Option<Option<Id>> {
+    if text.is_empty() {
+        Some(None)
+    } else {
+        Some(Some(parse_id(text.as_bytes())?))
     }
 }
 
@@ -219,170 +236,141 @@ fn execute_statements_command(
     out: &mut String,
     desk: &mut Desk<MemStore>,
     words: &str,
-) -> Result<(), OutOfMemory> {
+) -> Result<(), AllocError> {
     let (from, rest) = words.split_once(' ').unwrap_or((words, ""));
     let (to, customer) = rest.split_once(' ').unwrap_or((rest, ""));
-    let customer_id = parse_id(customer.as_bytes());
-    if customer_id.is_none() && !customer.is_empty() {
-        return append_refusal_line(out, Refusal::BadText);
+    match (parse_customer(customer), parse_days(from, to)) {
+        (Some(customer), Some((from, to))) => {
+            let mut lines = Vec::new(alloc);
+            let ended = statements(alloc, desk, customer, from, to, &mut lines);
+            append_report(out, &lines, ended)
+        }
+        _ => append_refusal_line(out, Refusal::BadText),
     }
-    let (Some(from), Some(to)) = (parse_day(from.as_bytes()), parse_day(to.as_bytes())) else {
-        return append_refusal_line(out, Refusal::BadText);
-    };
-    let mut lines = Vec::new(alloc);
-    let ended = statements(alloc, desk, customer_id, from, to, &mut lines);
-    append_escaped_output_lines(out, &lines)?;
-    append_ending_of_statement(out, ended)
 }
 
-// Writes the explanation that `words`, split at each space, requests (`parse_explain`).
-// Appends the lines that were written and, if the explanation failed, `no` and the number of its
-// refusal, or `! fault`. If `words` requests no explanation, appends only `no 18` (`BadText`). If
-// memory runs out while `words` is parsed, appends only `! fault`. Fails only if memory runs out.
+// Returns the bytes of each word of a text, which is split at each of its spaces. Fails only if
+// memory runs out.
+fn bytes_of_words(alloc: Global, words: &str) -> Result<Vec<&[u8]>, AllocError> {
+    let mut asked = Vec::new(alloc);
+    for word in words.split(' ') {
+        asked.push(word.as_bytes())?;
+    }
+    Ok(asked)
+}
+
+// Writes an explanation. Appends the lines that were written and, if the explanation failed, `no`
+// and the number of its refusal, or `! fault`. Fails only if memory runs out.
+fn append_explanation(
+    alloc: Global,
+    out: &mut String,
+    desk: &mut Desk<MemStore>,
+    what: &ExplainRequest,
+) -> Result<(), AllocError> {
+    let mut lines = Vec::new(alloc);
+    let ended = write_explanation(alloc, desk, what, &mut lines);
+    append_report(out, &lines, ended)
+}
+
+// Writes the explanation that `words`, split at each space, requests (`parse_explain`), as
+// `append_explanation` does. If `words` requests no explanation, appends only `no` and the number
+// of the refusal. If memory runs out while `words` is parsed, appends only `! fault`. Fails only if
+// memory runs out.
 fn execute_explain_command(
     alloc: Global,
     out: &mut String,
     desk: &mut Desk<MemStore>,
     words: &str,
-) -> Result<(), OutOfMemory> {
-    let mut asked = Vec::new(alloc);
-    for word in words.split(' ') {
-        asked.push(word.as_bytes())?;
-    }
-    let what = match parse_explain(alloc, &asked) {
-        Ok(Ok(what)) => what,
-        Ok(Err(refusal)) => return append_refusal_line(out, refusal),
-        Err(_) => return append_output_line(out, "! fault"),
-    };
-    let mut lines = Vec::new(alloc);
-    let ended = write_explanation(alloc, desk, &what, &mut lines);
-    append_escaped_output_lines(out, &lines)?;
-    match ended {
-        Ok(()) => Ok(()),
-        Err(ReportFault::Refused(refusal)) => append_refusal_line(out, refusal),
+) -> Result<(), AllocError> {
+    let asked = bytes_of_words(alloc, words)?;
+    match parse_explain(alloc, &asked) {
+        Ok(Ok(what)) => append_explanation(alloc, out, desk, &what),
+        Ok(Err(refusal)) => append_refusal_line(out, refusal),
         Err(_) => append_output_line(out, "! fault"),
     }
 }
 
 // Appends the result of an audit or of an adoption as an output line: `ok`, `damaged` and the first
-// condition that fails, or `! fault` for any other fault. Fails only if memory runs out.
-fn append_audit_result(out: &mut String, audited: Result<(), Fault>) -> Result<(), OutOfMemory> {
+// condition that fails, or `! fault` for any other fault. Appends nothing for `None`. Fails only if
+// memory runs out.
+fn append_audit_result(
+    out: &mut String,
+    audited: Option<Result<(), Fault>>,
+) -> Result<(), AllocError> {
     match audited {
-        Ok(()) => append_output_line(out, "ok"),
-        Err(Fault::Damaged(condition)) => {
-            writeln!(out, "> damaged {}", condition.output_word())?;
-            Ok(())
+        None => Ok(()),
+        Some(Ok(())) => append_output_line(out, "ok"),
+        Some(Err(Fault::Damaged(condition))) => {
+            writeln!(out, "> damaged {}", condition.output_word())
         }
-        Err(_) => append_output_line(out, "! fault"),
+        Some(Err(_)) => append_output_line(out, "! fault"),
     }
 }
 
-// Audits the open desk, or the open database by adopting it, which upgrades an older schema.
-// Appends the result (`ok`, `damaged` and the condition that fails, or `! fault`), and returns the
-// open desk or, without a desk, the open database. If nothing is open, appends nothing and returns
-// `Nothing`. Fails only if memory runs out.
-fn execute_audit_command(
-    alloc: Global,
-    out: &mut String,
-    place: Place,
-) -> Result<Place, OutOfMemory> {
-    match place {
-        Place::Open(mut desk) => {
-            append_audit_result(out, desk.audit(alloc))?;
-            Ok(Place::Open(desk))
-        }
-        Place::Database(conn) => {
-            let (place, audited) = adopt_database(alloc, conn);
-            append_audit_result(out, audited)?;
-            Ok(database_without_desk(place))
-        }
-        Place::Nothing => Ok(Place::Nothing),
+// Audits the open desk, or the open database by adopting it, which upgrades an older schema, and
+// keeps the database without a desk. Returns the result, or `None` if nothing is open.
+fn audit_place(alloc: Global, place: &mut Place) -> Option<Result<(), Fault>> {
+    if let Place::Open(desk) = place {
+        return Some(desk.audit(alloc));
     }
+    let audited = place.adopt(alloc);
+    place.close_desk();
+    audited
 }
 
-// Returns the open database without its desk, or `Nothing` if nothing is open.
-fn database_without_desk(place: Place) -> Place {
-    match place.into_conn() {
-        Some(conn) => Place::Database(conn),
-        None => Place::Nothing,
-    }
-}
-
-// Adopts the open database, or the database of the open desk, which upgrades an older schema.
-// Appends the result (`ok`, `damaged` and the condition that fails, or `! fault`), and returns the
-// desk of the database, or the database without a desk if the adoption failed. If nothing is open,
-// appends nothing and returns `Nothing`. Fails only if memory runs out.
-fn execute_adopt_command(
-    alloc: Global,
-    out: &mut String,
-    place: Place,
-) -> Result<Place, OutOfMemory> {
-    match place.into_conn() {
-        Some(conn) => {
-            let (place, adopted) = adopt_database(alloc, conn);
-            append_audit_result(out, adopted)?;
-            Ok(place)
-        }
-        None => Ok(Place::Nothing),
-    }
-}
-
-// Executes the SQL statement `bytes` on a database, as another program would, and appends the
-// output line `! sql` if the statement fails or is not UTF-8. Fails only if memory runs out.
-fn execute_sql_statement(
-    out: &mut String,
-    conn: &mut Connection<MemStore>,
-    bytes: &[u8],
-) -> Result<(), OutOfMemory> {
-    let done = match str::from_utf8(bytes) {
+// Executes an SQL statement on a database, as another program would. Returns true if it succeeds,
+// and false also if `bytes` is not UTF-8.
+fn execute_sql(conn: &mut Connection<MemStore>, bytes: &[u8]) -> bool {
+    match str::from_utf8(bytes) {
         Ok(sql) => conn.execute(sql, &[]).is_ok(),
         Err(_) => false,
-    };
-    if done {
-        Ok(())
-    } else {
-        append_output_line(out, "! sql")
     }
 }
 
-// Executes each input line as an SQL statement, as another program would, on the database without
-// its desk, and appends the output line `! sql` for each statement that fails or is not UTF-8.
-// Returns the database. If nothing is open, appends nothing and returns `Nothing`. Fails only if
-// memory runs out.
+// Executes each input line as an SQL statement (`execute_sql`), and appends the output line `! sql`
+// for each statement that fails or is not UTF-8. Fails only if memory runs out.
+fn execute_sql_statements(
+    out: &mut String,
+    conn: &mut Connection<MemStore>,
+    pieces: &[Piece],
+) -> Result<(), AllocError> {
+    for piece in pieces {
+        if !execute_sql(conn, &piece.bytes) {
+            append_output_line(out, "! sql")?;
+        }
+    }
+    Ok(())
+}
+
+// Executes the input lines as SQL statements (`execute_sql_statements`) on the open database
+// without its desk. If nothing is open, appends nothing. Fails only if memory runs out.
 fn execute_sql_command(
     out: &mut String,
-    place: Place,
+    place: &mut Place,
     pieces: &[Piece],
-) -> Result<Place, OutOfMemory> {
-    match place.into_conn() {
-        Some(mut conn) => {
-            for piece in pieces {
-                execute_sql_statement(out, &mut conn, &piece.bytes)?;
-            }
-            Ok(Place::Database(conn))
-        }
-        None => Ok(Place::Nothing),
+) -> Result<(), AllocError> {
+    place.close_desk();
+    match place {
+        Place::Database(conn) => execute_sql_statements(out, conn, pieces),
+        _ => Ok(()),
     }
 }
 
 // Appends the rows of all tables of a desk in the open database, or in that of the open desk, as
 // output lines (`append_rows_of_all_tables`). Then adopts the database, which upgrades an older
-// schema, without appending the result, and returns the desk of the database, or the database
-// without a desk if the adoption failed. If nothing is open, appends nothing and returns `Nothing`.
-// Fails only if memory runs out.
+// schema, without appending the result. If nothing is open, appends nothing. Fails only if memory
+// runs out.
 fn execute_tables_command(
     alloc: Global,
     out: &mut String,
-    place: Place,
-) -> Result<Place, OutOfMemory> {
-    match place.into_conn() {
-        Some(mut conn) => {
-            append_rows_of_all_tables(alloc, out, &mut conn)?;
-            let (place, _) = adopt_database(alloc, conn);
-            Ok(place)
-        }
-        None => Ok(Place::Nothing),
+    place: &mut Place,
+) -> Result<(), AllocError> {
+    place.close_desk();
+    if let Place::Database(conn) = place {
+        append_rows_of_all_tables(out, conn)?;
     }
+    place.adopt(alloc);
+    Ok(())
 }
 
 // Executes a command that needs an open desk, given by its first word `verb`, the rest of its line
@@ -395,7 +383,7 @@ fn execute_desk_command(
     verb: &str,
     words: &str,
     pieces: &[Piece],
-) -> Result<(), OutOfMemory> {
+) -> Result<(), AllocError> {
     match verb {
         "batch" => execute_batch_command(
             alloc,
@@ -414,77 +402,67 @@ fn execute_desk_command(
     }
 }
 
-// Executes a command that opens a new desk or database, or one on the open desk or database, given
-// by its first word `verb`, the rest of its line `words` and its input lines `pieces`. Appends its
-// output lines, and returns the desk or database that is open after it. If the command needs a desk
-// or is unknown, and no desk is open, appends only `! no desk`; if it is unknown and a desk is
-// open, appends only `! no such command`. Fails only if memory runs out.
-fn execute_desk_or_database_command(
+// Executes a command that needs an open desk (`execute_desk_command`), or appends only `! no desk`
+// if no desk is open. Fails only if memory runs out.
+fn execute_command_of_open_desk(
     alloc: Global,
     out: &mut String,
-    place: Place,
+    place: &mut Place,
     verb: &str,
     words: &str,
     pieces: &[Piece],
-) -> Result<Place, OutOfMemory> {
-    match verb {
-        "desk" => Ok(Place::with_new_desk(alloc)),
-        "empty" => Ok(Place::with_empty_database(alloc)),
-        "sql" => execute_sql_command(out, place, pieces),
-        "tables" => execute_tables_command(alloc, out, place),
-        "audit" => execute_audit_command(alloc, out, place),
-        "adopt" => execute_adopt_command(alloc, out, place),
-        _ => match place {
-            Place::Open(mut desk) => {
-                execute_desk_command(alloc, out, &mut desk, verb, words, pieces)?;
-                Ok(Place::Open(desk))
-            }
-            other => {
-                append_output_line(out, "! no desk")?;
-                Ok(other)
-            }
-        },
+) -> Result<(), AllocError> {
+    match place {
+        Place::Open(desk) => execute_desk_command(alloc, out, desk, verb, words, pieces),
+        _ => append_output_line(out, "! no desk"),
     }
 }
 
-// Executes a command over files, given by its first word `verb`, the rest of its line `words` and
-// its input lines `pieces`, and appends its output lines. Fails only if memory runs out.
-fn execute_file_command_with_lines(
-    rt: &HostRuntime,
+// Executes a command that opens a new desk or database, or one on the open desk or database, given
+// by its first word `verb`, the rest of its line `words` and its input lines `pieces`. Appends its
+// output lines. If the command needs a desk or is unknown, and no desk is open, appends only
+// `! no desk`; if it is unknown and a desk is open, appends only `! no such command`. Fails only if
+// memory runs out.
+fn execute_desk_or_database_command(
+    alloc: Global,
     out: &mut String,
+    place: &mut Place,
     verb: &str,
     words: &str,
     pieces: &[Piece],
-) -> Result<(), OutOfMemory> {
-    let input = join_input_lines(rt.alloc(), pieces)?;
-    execute_file_command(rt, out, verb, words, &input)
+) -> Result<(), AllocError> {
+    match verb {
+        "desk" => *place = Place::with_new_desk(alloc),
+        "empty" => *place = Place::with_empty_database(alloc),
+        "sql" => return execute_sql_command(out, place, pieces),
+        "tables" => return execute_tables_command(alloc, out, place),
+        "audit" => return append_audit_result(out, audit_place(alloc, place)),
+        "adopt" => return append_audit_result(out, place.adopt(alloc)),
+        _ => return execute_command_of_open_desk(alloc, out, place, verb, words, pieces),
+    }
+    Ok(())
 }
 
 /// Executes the command `command` with its input lines `pieces`: one of `tests`, a command over
-/// files, one that opens a new desk or database, or one on the open desk or database. Appends its
-/// output lines, and returns the desk or database that is open after it. If the command needs a
-/// desk or is unknown, and no desk is open, appends only `! no desk`; if it is unknown and a desk is
-/// open, appends only `! no such command`. Fails only if memory runs out.
+/// files, one that opens a new desk or database in `place`, or one on the open desk or database.
+/// Appends its output lines. If the command needs a desk or is unknown, and no desk is open, appends
+/// only `! no desk`; if it is unknown and a desk is open, appends only `! no such command`. Fails
+/// only if memory runs out.
 pub fn execute_command<T: NamedTests>(
     rt: &HostRuntime,
     tests: &T,
     out: &mut String,
-    place: Place,
+    place: &mut Place,
     command: &str,
     pieces: &[Piece],
-) -> Result<Place, OutOfMemory> {
+) -> Result<(), AllocError> {
     let (verb, words) = command.split_once(' ').unwrap_or((command, ""));
     match verb {
         "$" | "write" | "copy" | "cut" | "change" => {
-            match execute_file_command_with_lines(rt, out, verb, words, pieces) {
-                Ok(()) => Ok(place),
-                Err(failed) => Err(failed),
-            }
+            let input = join_input_lines(rt.alloc(), pieces)?;
+            execute_file_command(rt, out, verb, words, &input)
         }
-        "test" => match execute_test_command(rt, tests, out, words) {
-            Ok(()) => Ok(place),
-            Err(failed) => Err(failed),
-        },
+        "test" => execute_test_command(rt, tests, out, words),
         _ => execute_desk_or_database_command(rt.alloc(), out, place, verb, words, pieces),
     }
 }

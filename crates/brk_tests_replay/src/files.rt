@@ -2,8 +2,7 @@
 //! another program makes in a file. A function that fails may have appended a part of its lines. A
 //! change that fails may have changed a part of its file.
 
-use crate::failed::OutOfMemory;
-use crate::replay::append_escaped_lines_with_prefix;
+use crate::replay::{append_escaped_lines_with_prefix, append_output_line};
 use brk_cli_args::read_words;
 use brk_cli_exit::end_with;
 use brk_cli_jobs::{MachineFiles, PipeWriter, execute_requested_job};
@@ -22,30 +21,34 @@ fn program_name_and_arguments(alloc: Global, text: &str) -> Result<Vec<String>, 
     Ok(words)
 }
 
+// Appends what the program wrote and how it ended: the lines of its output, the lines of its error
+// text, each with `!` before it, and a line with `=` and its exit status. Fails only if memory runs
+// out.
+fn append_program_result(
+    out: &mut String,
+    output: &[u8],
+    errors: &[u8],
+    status: u8,
+) -> Result<(), AllocError> {
+    append_escaped_lines_with_prefix(out, "> ", output)?;
+    append_escaped_lines_with_prefix(out, "> ! ", errors)?;
+    writeln!(out, "> = {status}")
+}
+
 // Executes the program `brk` in this process with the command-line arguments `words` and this
-// input. Appends the lines of its output, the lines of its error text, each with `!` before it, and
-// a line with `=` and its exit status. Fails only if memory runs out.
+// input, and appends its result (`append_program_result`). Fails only if memory runs out.
 fn run_program(
     rt: &HostRuntime,
     out: &mut String,
     words: &str,
     input: &[u8],
-) -> Result<(), OutOfMemory> {
-    let alloc = rt.alloc();
-    let mut output = PipeWriter::new(Vec::new(alloc));
-    let mut errors = Vec::new(alloc);
-    let ending = execute_requested_job(
-        rt,
-        &MachineFiles::new(rt),
-        read_words(program_name_and_arguments(alloc, words)?),
-        input,
-        &mut output,
-    );
+) -> Result<(), AllocError> {
+    let words = read_words(program_name_and_arguments(rt.alloc(), words)?);
+    let mut output = PipeWriter::new(Vec::new(rt.alloc()));
+    let ending = execute_requested_job(rt, &MachineFiles::new(rt), words, input, &mut output);
+    let mut errors = Vec::new(rt.alloc());
     let status = end_with(&ending, &mut errors);
-    append_escaped_lines_with_prefix(out, "> ", &output.into_output())?;
-    append_escaped_lines_with_prefix(out, "> ! ", &errors)?;
-    writeln!(out, "> = {status}")?;
-    Ok(())
+    append_program_result(out, &output.into_output(), &errors, status)
 }
 
 // Writes the bytes `bytes` as the whole file at a path, in place of an earlier file. Returns true
@@ -111,13 +114,10 @@ pub fn execute_file_command(
     verb: &str,
     words: &str,
     input: &[u8],
-) -> Result<(), OutOfMemory> {
+) -> Result<(), AllocError> {
     match verb {
         "$" => run_program(rt, out, words, input),
-        _ => {
-            let done = change_file(rt, verb, words, input);
-            out.push_str(if done { "> = done\n" } else { "> = failed\n" })?;
-            Ok(())
-        }
+        _ if change_file(rt, verb, words, input) => append_output_line(out, "= done"),
+        _ => append_output_line(out, "= failed"),
     }
 }

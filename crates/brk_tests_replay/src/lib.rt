@@ -5,7 +5,6 @@
 
 mod commands;
 mod comparison;
-mod failed;
 mod files;
 mod listing;
 mod records;
@@ -14,7 +13,6 @@ mod table_list;
 mod tests;
 
 pub use comparison::{Difference, first_difference};
-pub use failed::OutOfMemory;
 pub use listing::list_transcripts;
 pub use replay::{count_commands, replay_transcript};
 pub use tests::NamedTests;

@@ -1,10 +1,9 @@
 //! The records that transcripts show: those of views and the rows of all tables. A function that
 //! fails may have appended a part of its lines.
 
-use crate::failed::OutOfMemory;
 use crate::replay::{Piece, append_escaped_bytes, append_escaped_output_lines, append_output_line};
 use crate::table_list::TABLES;
-use brk_ask::Form;
+use brk_ask::{Form, write_asked};
 use brk_desk::{Desk, parse_query};
 use brk_money::{Planned, Refusal};
 use brk_report::ReportFault;
@@ -15,34 +14,50 @@ use sqlite::{Connection, MemStore, Row};
 use std::alloc::{AllocError, Global};
 
 /// Appends the output line of a refusal: `no` and its number. Fails only if memory runs out.
-pub fn append_refusal_line(out: &mut String, refusal: Refusal) -> Result<(), OutOfMemory> {
-    writeln!(out, "> no {}", refusal.number())?;
-    Ok(())
+pub fn append_refusal_line(out: &mut String, refusal: Refusal) -> Result<(), AllocError> {
+    writeln!(out, "> no {}", refusal.number())
+}
+
+/// Appends the bytes `written` of a report as output lines with escapes and, if the report failed,
+/// `no` and the number of its refusal, or `! fault`. Fails only if memory runs out.
+pub fn append_report(
+    out: &mut String,
+    written: &[u8],
+    ended: Result<(), ReportFault>,
+) -> Result<(), AllocError> {
+    append_escaped_output_lines(out, written)?;
+    match ended {
+        Ok(()) => Ok(()),
+        Err(ReportFault::Refused(refusal)) => append_refusal_line(out, refusal),
+        Err(_) => append_output_line(out, "! fault"),
+    }
 }
 
 // Appends the fields of a record as an output line, with escapes and separated by bars. For a
 // record without fields, appends an empty line. Fails only if memory runs out.
-fn append_record_line(out: &mut String, record: &[String]) -> Result<(), OutOfMemory> {
+fn append_record_line(out: &mut String, record: &[String]) -> Result<(), AllocError> {
     let mut sign = "> ";
     for field in record {
         out.push_str(sign)?;
         append_escaped_bytes(out, field.as_bytes(), true)?;
         sign = "|";
     }
-    out.push_str("\n")?;
+    out.push_str("\n")
+}
+
+// Appends each record, in order, as an output line. Fails only if memory runs out.
+fn append_record_lines(out: &mut String, records: &[Vec<String>]) -> Result<(), AllocError> {
+    for record in records {
+        append_record_line(out, record)?;
+    }
     Ok(())
 }
 
 // Appends each record of a view, in order, as an output line. Fails only if memory runs out.
-fn append_view_lines(alloc: Global, out: &mut String, view: &View) -> Result<(), OutOfMemory> {
+fn append_view_lines(alloc: Global, out: &mut String, view: &View) -> Result<(), AllocError> {
     match view_fields(alloc, view) {
-        Ok(records) => {
-            for record in &records {
-                append_record_line(out, record)?;
-            }
-            Ok(())
-        }
-        Err(_) => Err(OutOfMemory),
+        Ok(records) => append_record_lines(out, &records),
+        Err(_) => Err(AllocError),
     }
 }
 
@@ -81,7 +96,7 @@ pub fn execute_ask_command(
     desk: &mut Desk<MemStore>,
     view: &str,
     pieces: &[Piece],
-) -> Result<(), OutOfMemory> {
+) -> Result<(), AllocError> {
     let arguments = bytes_of_input_lines(alloc, pieces)?;
     match parse_and_execute_query(alloc, desk, view, &arguments) {
         Ok(Ok(view)) => append_view_lines(alloc, out, &view),
@@ -110,11 +125,11 @@ pub fn execute_print_command(
     desk: &mut Desk<MemStore>,
     words: &str,
     pieces: &[Piece],
-) -> Result<(), OutOfMemory> {
+) -> Result<(), AllocError> {
     let (form, view) = words.split_once(' ').unwrap_or((words, ""));
     let arguments = bytes_of_input_lines(alloc, pieces)?;
     let mut printed = Vec::new(alloc);
-    let ended = brk_ask::write_asked(
+    let ended = write_asked(
         alloc,
         desk,
         view,
@@ -122,73 +137,65 @@ pub fn execute_print_command(
         format_of_printed_view(form),
         &mut printed,
     );
-    append_escaped_output_lines(out, &printed)?;
-    match ended {
-        Ok(()) => Ok(()),
-        Err(ReportFault::Refused(refusal)) => append_refusal_line(out, refusal),
-        Err(_) => append_output_line(out, "! fault"),
-    }
+    append_report(out, &printed, ended)
 }
 
 // Appends the value of the column at index `at` of a row, after a bar unless `at` is 0. A whole
 // number is written in decimal, after `-` if it is negative, and a text with the escapes of a
 // record. Any other value, for example a null, and the value of a missing column are written as
 // `\x00`. Fails only if memory runs out.
-fn append_cell_text(out: &mut String, row: &Row, at: usize) -> Result<(), OutOfMemory> {
+fn append_cell_text(out: &mut String, row: &Row, at: usize) -> Result<(), AllocError> {
     if at > 0 {
         out.push_str("|")?;
     }
     match row.get_ref(at) {
-        Ok(ValueRef::Int(number)) => write!(out, "{number}")?,
-        Ok(ValueRef::Text(bytes)) => append_escaped_bytes(out, bytes, true)?,
-        _ => out.push_str("\\x00")?,
+        Ok(ValueRef::Int(number)) => write!(out, "{number}"),
+        Ok(ValueRef::Text(bytes)) => append_escaped_bytes(out, bytes, true),
+        _ => out.push_str("\\x00"),
     }
-    Ok(())
 }
 
 // Appends a row of a table as an output line: the name of the table, a space, and the values of the
 // columns, separated by bars. Fails only if memory runs out.
-fn append_table_row(out: &mut String, table: &str, row: &Row) -> Result<(), OutOfMemory> {
+fn append_table_row(out: &mut String, table: &str, row: &Row) -> Result<(), AllocError> {
     write!(out, "> {table} ")?;
     for at in 0..row.column_count() {
         append_cell_text(out, row, at)?;
     }
-    out.push_str("\n")?;
+    out.push_str("\n")
+}
+
+// Appends rows of a table as output lines, in order. Fails only if memory runs out.
+fn append_table_rows(out: &mut String, table: &str, rows: &[Row]) -> Result<(), AllocError> {
+    for row in rows {
+        append_table_row(out, table, row)?;
+    }
     Ok(())
 }
 
-// Appends the rows of a table as output lines, sorted, ascending, by the columns `key` (their
-// places, counted from 1 and separated by commas), or the line `! no table` with the name of the
-// table if the rows cannot be read. Fails only if memory runs out.
+// Appends the rows of a table that the query `sql` returns as output lines, or the line
+// `! no table` with the name of the table if the rows cannot be read. Fails only if memory runs out.
 fn append_rows_of_table(
-    alloc: Global,
     out: &mut String,
     conn: &mut Connection<MemStore>,
     table: &str,
-    key: &str,
-) -> Result<(), OutOfMemory> {
-    let sql = format!(in alloc; "SELECT * FROM {table} ORDER BY {key}")?;
-    match conn.query_all(sql.as_str(), &[]) {
-        Ok(rows) => {
-            for row in &rows {
-                append_table_row(out, table, row)?;
-            }
-        }
-        Err(_) => writeln!(out, "> ! no table {table}")?,
+    sql: &str,
+) -> Result<(), AllocError> {
+    match conn.query_all(sql, &[]) {
+        Ok(rows) => append_table_rows(out, table, &rows),
+        Err(_) => writeln!(out, "> ! no table {table}"),
     }
-    Ok(())
 }
 
 /// Appends the rows of all tables of a desk as output lines: the tables in the order of `TABLES`,
 /// and each sorted by its key, ascending. For a table that cannot be read, appends the line
 /// `! no table` with its name in place of its rows. Fails only if memory runs out.
 pub fn append_rows_of_all_tables(
-    alloc: Global,
     out: &mut String,
     conn: &mut Connection<MemStore>,
-) -> Result<(), OutOfMemory> {
-    for (table, key) in &TABLES {
-        append_rows_of_table(alloc, out, conn, table, key)?;
+) -> Result<(), AllocError> {
+    for (table, sql) in &TABLES {
+        append_rows_of_table(out, conn, table, sql)?;
     }
     Ok(())
 }

@@ -2,7 +2,6 @@
 //! have appended a part of its lines.
 
 use crate::commands::{Place, execute_command};
-use crate::failed::OutOfMemory;
 use crate::tests::NamedTests;
 use std::alloc::{AllocError, Global};
 
@@ -67,18 +66,23 @@ pub fn unescape_input_line(alloc: Global, text: &str) -> Result<Piece, AllocErro
     })
 }
 
-// Appends a text with the escapes of an output line: a backslash as `\\`, a carriage return as
+// Appends a character with the escapes of an output line: a backslash as `\\`, a carriage return as
 // `\r`, and each other character below 20 (hexadecimal), the character 7f, and a bar if `in_record`
 // is true, as `\x` with two lower-case hexadecimal digits. Fails only if memory runs out.
-fn append_escaped_text(out: &mut String, text: &str, in_record: bool) -> Result<(), OutOfMemory> {
+fn append_escaped_char(out: &mut String, c: char, in_record: bool) -> Result<(), AllocError> {
+    match c {
+        '\\' => out.push_str("\\\\"),
+        '\r' => out.push_str("\\r"),
+        '|' if in_record => out.push_str("\\x7c"),
+        '\0'..='\x1f' | '\x7f' => write!(out, "\\x{:02x}", u32::from(c)),
+        _ => out.push(c),
+    }
+}
+
+// Appends each character of a text (`append_escaped_char`). Fails only if memory runs out.
+fn append_escaped_text(out: &mut String, text: &str, in_record: bool) -> Result<(), AllocError> {
     for c in text.chars() {
-        match c {
-            '\\' => out.push_str("\\\\")?,
-            '\r' => out.push_str("\\r")?,
-            '|' if in_record => out.push_str("\\x7c")?,
-            '\0'..='\x1f' | '\x7f' => write!(out, "\\x{:02x}", u32::from(c))?,
-            _ => out.push(c)?,
-        }
+        append_escaped_char(out, c, in_record)?;
     }
     Ok(())
 }
@@ -91,22 +95,26 @@ pub fn append_escaped_bytes(
     out: &mut String,
     bytes: &[u8],
     in_record: bool,
-) -> Result<(), OutOfMemory> {
-    let mut rest = bytes;
-    for _ in 0..bytes.len() {
-        let known = match str::from_utf8(rest) {
-            Ok(_) => rest.len(),
-            Err(error) => error.valid_up_to().min(rest.len()),
-        };
-        let (front, back) = rest.split_at(known);
-        append_escaped_text(out, str::from_utf8(front).unwrap_or(""), in_record)?;
-        let Some((bad, after)) = back.split_first() else {
-            return Ok(());
-        };
-        write!(out, "\\x{:02x}", *bad)?;
-        rest = after;
+) -> Result<(), AllocError> {
+    for chunk in bytes.utf8_chunks() {
+        append_escaped_text(out, chunk.valid(), in_record)?;
+        for byte in chunk.invalid() {
+            write!(out, "\\x{byte:02x}")?;
+        }
     }
     Ok(())
+}
+
+// Appends a written line as an output line with escapes after the mark `mark`. A line without a
+// line feed ends in a single backslash. Fails only if memory runs out.
+fn append_escaped_line(out: &mut String, mark: &str, written: &[u8]) -> Result<(), AllocError> {
+    let (line, end) = match written.strip_suffix(b"\n") {
+        Some(line) => (line, "\n"),
+        None => (written, "\\\n"),
+    };
+    out.push_str(mark)?;
+    append_escaped_bytes(out, line, false)?;
+    out.push_str(end)
 }
 
 /// Appends written bytes as output lines with escapes, each after the mark `mark`. The bytes are
@@ -117,55 +125,23 @@ pub fn append_escaped_lines_with_prefix(
     out: &mut String,
     mark: &str,
     bytes: &[u8],
-) -> Result<(), OutOfMemory> {
-    for piece in bytes.split_inclusive(|byte| *byte == b'\n') {
-        out.push_str(mark)?;
-        match piece.strip_suffix(b"\n") {
-            Some(line) => append_escaped_bytes(out, line, false)?,
-            None => {
-                append_escaped_bytes(out, piece, false)?;
-                out.push_str("\\")?;
-            }
-        }
-        out.push_str("\n")?;
+) -> Result<(), AllocError> {
+    for line in bytes.split_inclusive(|byte| *byte == b'\n') {
+        append_escaped_line(out, mark, line)?;
     }
     Ok(())
 }
 
 /// Appends written bytes as output lines with escapes, as `append_escaped_lines_with_prefix` does
 /// after `>` and a space. Fails only if memory runs out.
-pub fn append_escaped_output_lines(out: &mut String, bytes: &[u8]) -> Result<(), OutOfMemory> {
+pub fn append_escaped_output_lines(out: &mut String, bytes: &[u8]) -> Result<(), AllocError> {
     append_escaped_lines_with_prefix(out, "> ", bytes)
 }
 
 /// Appends the text `line`, without escapes, as an output line: after `>` and a space, and before a
 /// line feed. Fails only if memory runs out.
-pub fn append_output_line(out: &mut String, line: &str) -> Result<(), OutOfMemory> {
-    writeln!(out, "> {line}")?;
-    Ok(())
-}
-
-// The pending command of a replay with its input lines so far. It is executed when the replay
-// reaches the next line that is neither input nor output.
-#[derive(Drop)]
-struct Due<'a> {
-    command: &'a str,
-    pieces: Vec<Piece>,
-}
-
-// Executes the pending command, if there is one, appends its output lines, and returns the desk or
-// the database that is open after it. Fails only if memory runs out.
-fn execute_pending_command<T: NamedTests>(
-    rt: &HostRuntime,
-    tests: &T,
-    out: &mut String,
-    place: Place,
-    due: Option<Due<'_>>,
-) -> Result<Place, OutOfMemory> {
-    match due {
-        Some(due) => execute_command(rt, tests, out, place, due.command, &due.pieces),
-        None => Ok(place),
-    }
+pub fn append_output_line(out: &mut String, line: &str) -> Result<(), AllocError> {
+    writeln!(out, "> {line}")
 }
 
 // Returns true if a line is a comment, which begins with `#`, or empty.
@@ -184,75 +160,74 @@ pub fn count_commands(text: &str) -> usize {
     text.split('\n').filter(|line| is_command(line)).count()
 }
 
-// The state of a replay: the open desk or database, and the pending command.
+// The state of a replay: the open desk or database, and its last line that is neither input nor
+// output, with the input lines after it. The command of this line is executed when the replay
+// reaches the next such line.
 #[derive(Drop)]
 struct Replay<'a> {
     place: Place,
-    due: Option<Due<'a>>,
+    line: &'a str,
+    pieces: Vec<Piece>,
 }
 
 impl<'a> Replay<'a> {
-    // Adds the input line `text`, without its escapes, to the pending command and returns the
-    // replay after it, or returns the replay unchanged if no command is pending. Fails only if
-    // memory runs out.
-    fn with_input_line(self, alloc: Global, text: &str) -> Result<Replay<'a>, OutOfMemory> {
-        let Replay { place, due } = self;
-        let Some(mut due) = due else {
-            return Ok(Replay { place, due: None });
-        };
-        due.pieces.push(unescape_input_line(alloc, text)?)?;
-        Ok(Replay {
-            place,
-            due: Some(due),
-        })
-    }
-
-    // Executes the pending command, if there is one, copies the line `line` to the replay, and
-    // starts the next pending command with it; after a comment or an empty line, no command is
-    // pending. Returns the state of the replay after it. Fails only if memory runs out.
-    fn execute_pending_and_start_next<T: NamedTests>(
-        self,
+    // Executes the pending command, if the last line is one, and appends its output lines. Fails
+    // only if memory runs out.
+    fn execute_pending_command<T: NamedTests>(
+        &mut self,
         rt: &HostRuntime,
         tests: &T,
         out: &mut String,
-        line: &'a str,
-    ) -> Result<Replay<'a>, OutOfMemory> {
-        let Replay { place, due } = self;
-        let place = execute_pending_command(rt, tests, out, place, due)?;
-        writeln!(out, "{line}")?;
-        let due = if is_comment_or_empty(line) {
-            None
-        } else {
-            Some(Due {
-                command: line,
-                pieces: Vec::new(rt.alloc()),
-            })
-        };
-        Ok(Replay { place, due })
+    ) -> Result<(), AllocError> {
+        if is_comment_or_empty(self.line) {
+            return Ok(());
+        }
+        execute_command(rt, tests, out, &mut self.place, self.line, &self.pieces)
     }
 
-    // Processes the next line of a transcript, and returns the state of the replay after it: drops
-    // an output line (after `>` and a space); copies an input line (after a bar and a space) and
-    // adds it to the pending command, if there is one; executes the pending command, if any, at any
-    // other line and copies this line, which starts the next command unless it is a comment or
-    // empty. Fails only if memory runs out.
+    // Makes `line` the last line, whose command is pending unless it is a comment or empty.
+    fn start_next_command(&mut self, line: &'a str) {
+        self.line = line;
+        self.pieces.clear();
+    }
+
+    // Processes the next line of a transcript: drops an output line (after `>` and a space); copies
+    // an input line (after a bar and a space) and adds it to the input lines, without its escapes;
+    // executes the pending command, if any, at any other line and copies this line, which starts
+    // the next command unless it is a comment or empty. Fails only if memory runs out.
     fn process_line<T: NamedTests>(
-        self,
+        &mut self,
         rt: &HostRuntime,
         tests: &T,
         out: &mut String,
         line: &'a str,
-    ) -> Result<Replay<'a>, OutOfMemory> {
+    ) -> Result<(), AllocError> {
         if line.starts_with("> ") {
-            return Ok(self);
+            return Ok(());
         }
         match line.strip_prefix("| ") {
-            Some(text) => {
-                writeln!(out, "{line}")?;
-                self.with_input_line(rt.alloc(), text)
+            Some(text) => self.pieces.push(unescape_input_line(rt.alloc(), text)?)?,
+            None => {
+                self.execute_pending_command(rt, tests, out)?;
+                self.start_next_command(line);
             }
-            None => self.execute_pending_and_start_next(rt, tests, out, line),
         }
+        writeln!(out, "{line}")
+    }
+
+    // Processes all lines of a transcript, and executes the last command. Fails only if memory runs
+    // out.
+    fn process_lines<T: NamedTests>(
+        &mut self,
+        rt: &HostRuntime,
+        tests: &T,
+        out: &mut String,
+        text: &'a str,
+    ) -> Result<(), AllocError> {
+        for line in text.split('\n') {
+            self.process_line(rt, tests, out, line)?;
+        }
+        self.execute_pending_command(rt, tests, out)
     }
 }
 
@@ -265,15 +240,14 @@ pub fn replay_transcript<T: NamedTests>(
     rt: &HostRuntime,
     tests: &T,
     text: &str,
-) -> Result<String, OutOfMemory> {
+) -> Result<String, AllocError> {
     let mut out = String::new(rt.alloc());
     let mut replay = Replay {
         place: Place::Nothing,
-        due: None,
+        line: "",
+        pieces: Vec::new(rt.alloc()),
     };
-    for line in text.strip_suffix('\n').unwrap_or(text).split('\n') {
-        replay = replay.process_line(rt, tests, &mut out, line)?;
-    }
-    execute_pending_command(rt, tests, &mut out, replay.place, replay.due)?;
+    let lines = text.strip_suffix('\n').unwrap_or(text);
+    replay.process_lines(rt, tests, &mut out, lines)?;
     Ok(out)
 }

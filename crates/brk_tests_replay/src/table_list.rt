@@ -1,27 +1,48 @@
 //! Written by tools/generate/tables.py: the tables that a transcript shows.
 
-/// The tables, and the places of the columns of their keys.
+/// The tables, and the query of the rows of each, sorted by its key.
 pub const TABLES: [(&str, &str); 22] = [
-    ("DESK", "1"),
-    ("KEPT", "1, 2"),
-    ("BROKER", "1"),
-    ("CUSTOMER", "1"),
-    ("CUSTOMER_ACCOUNT", "1"),
-    ("ACCOUNT_PERMISSION", "1, 2"),
-    ("SECURITY", "1"),
-    ("LAST_TRADE", "1"),
-    ("CHARGE", "1, 2"),
-    ("COMMISSION_RATE", "1, 2, 3, 4"),
-    ("TAXRATE", "1"),
-    ("CUSTOMER_TAXRATE", "1, 2"),
-    ("TRADE", "1"),
-    ("TRADE_HISTORY", "1, 2"),
-    ("TRADE_REQUEST", "1"),
-    ("HOLDING", "1"),
-    ("HOLDING_SUMMARY", "1, 2"),
-    ("HOLDING_HISTORY", "1, 2"),
-    ("SETTLEMENT", "1"),
-    ("CASH_TRANSACTION", "1"),
-    ("CASH_MOVE", "1"),
-    ("SETTLE_RULE", "1"),
+    ("DESK", "SELECT * FROM DESK ORDER BY 1"),
+    ("KEPT", "SELECT * FROM KEPT ORDER BY 1, 2"),
+    ("BROKER", "SELECT * FROM BROKER ORDER BY 1"),
+    ("CUSTOMER", "SELECT * FROM CUSTOMER ORDER BY 1"),
+    (
+        "CUSTOMER_ACCOUNT",
+        "SELECT * FROM CUSTOMER_ACCOUNT ORDER BY 1",
+    ),
+    (
+        "ACCOUNT_PERMISSION",
+        "SELECT * FROM ACCOUNT_PERMISSION ORDER BY 1, 2",
+    ),
+    ("SECURITY", "SELECT * FROM SECURITY ORDER BY 1"),
+    ("LAST_TRADE", "SELECT * FROM LAST_TRADE ORDER BY 1"),
+    ("CHARGE", "SELECT * FROM CHARGE ORDER BY 1, 2"),
+    (
+        "COMMISSION_RATE",
+        "SELECT * FROM COMMISSION_RATE ORDER BY 1, 2, 3, 4",
+    ),
+    ("TAXRATE", "SELECT * FROM TAXRATE ORDER BY 1"),
+    (
+        "CUSTOMER_TAXRATE",
+        "SELECT * FROM CUSTOMER_TAXRATE ORDER BY 1, 2",
+    ),
+    ("TRADE", "SELECT * FROM TRADE ORDER BY 1"),
+    ("TRADE_HISTORY", "SELECT * FROM TRADE_HISTORY ORDER BY 1, 2"),
+    ("TRADE_REQUEST", "SELECT * FROM TRADE_REQUEST ORDER BY 1"),
+    ("HOLDING", "SELECT * FROM HOLDING ORDER BY 1"),
+    (
+        "HOLDING_SUMMARY",
+        "SELECT * FROM HOLDING_SUMMARY ORDER BY 1, 2",
+    ),
+    (
+        "HOLDING_HISTORY",
+        "SELECT * FROM HOLDING_HISTORY ORDER BY 1, 2",
+    ),
+    ("SETTLEMENT", "SELECT * FROM SETTLEMENT ORDER BY 1"),
+    (
+        "CASH_TRANSACTION",
+        "SELECT * FROM CASH_TRANSACTION ORDER BY 1",
+    ),
+    ("CASH_MOVE", "SELECT * FROM CASH_MOVE ORDER BY 1"),
+    ("SETTLE_RULE", "SELECT * FROM SETTLE_RULE ORDER BY 1"),
 ];

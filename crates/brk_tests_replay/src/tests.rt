@@ -1,7 +1,7 @@
 //! The command `test`, which runs a test that no transcript can state.
 
-use crate::failed::OutOfMemory;
 use crate::replay::append_output_line;
+use std::alloc::AllocError;
 use std::process::Termination;
 use std::test::Fail;
 
@@ -20,7 +20,7 @@ pub fn execute_test_command<T: NamedTests>(
     tests: &T,
     out: &mut String,
     name: &str,
-) -> Result<(), OutOfMemory> {
+) -> Result<(), AllocError> {
     match tests.run(rt, name) {
         None => append_output_line(out, "! no such test"),
         Some(Ok(())) => append_output_line(out, "ok"),
