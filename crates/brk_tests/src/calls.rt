@@ -13,11 +13,11 @@ use brk_tests_desks::desks::{Still, desk_with_reference_data, open_in_memory};
 use brk_tests_surface_rules::view::format_records;
 use brk_tests_unit::expect::{expect, expect_text};
 use sqlite::{Alter, Connection};
-use std::alloc::Global;
+use std::alloc::{AllocError, Global};
 use std::test::Fail;
 
 // Returns the fields of a row without quotes, split at its commas, in order.
-fn split_fields<'a>(alloc: Global, row: &'a str) -> Result<Vec<&'a [u8]>, Fail> {
+fn split_fields<'a>(alloc: Global, row: &'a str) -> Result<Vec<&'a [u8]>, AllocError> {
     let mut fields = Vec::new(alloc);
     for field in row.split(',') {
         fields.push(field.as_bytes())?;
@@ -39,9 +39,10 @@ fn query_of_row(alloc: Global, view: &str, row: &str) -> Result<Query, Fail> {
 
 // Returns the key of the row with this number in the batch A.
 fn key_of_row(alloc: Global, row: u64) -> Result<Key, Fail> {
-    let n = RowNumber::new(row).ok_or("number of a row")?;
-    let batch = BatchName::parse(alloc, b"A")?.ok_or("batch name")?;
-    Ok(Key { batch, n })
+    match (RowNumber::new(row), BatchName::parse(alloc, b"A")?) {
+        (Some(n), Some(batch)) => Ok(Key { batch, n }),
+        _ => Err("a key")?,
+    }
 }
 
 fn first_timestamp() -> Stamp {

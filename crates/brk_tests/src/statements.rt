@@ -50,12 +50,12 @@ fn ending_word(ended: &Result<(), StatementFault>) -> &'static str {
 fn expect_statement_write_fault<S: Alter>(
     alloc: Global,
     desk: &mut Desk<S>,
-    asked: Asked,
+    asked: &Asked,
     room: usize,
 ) -> Result<(), Fail> {
     let wanted = if room < WANTED.len() { "write" } else { "done" };
     let mut writer = Narrow::new(alloc, room, error_kind_for_room(room));
-    let ended = ending_word(&write_statement(alloc, asked, &mut writer, desk));
+    let ended = ending_word(&write_statement(alloc, *asked, &mut writer, desk));
     expect(
         ended == wanted && WANTED.as_bytes().get(..room) == Some(writer.taken.as_slice()),
         format_args!("room for {room}: {ended}"),
@@ -67,7 +67,7 @@ fn expect_statement_write_fault<S: Alter>(
 fn expect_each_statement_write_fault<S: Alter + Drop>(
     alloc: Global,
     conn: Option<Connection<S>>,
-    asked: Asked,
+    asked: &Asked,
 ) -> Result<(), Fail> {
     let mut desk = desk_after_trades(alloc, conn)?;
     for room in 0..=WANTED.len() {
@@ -81,5 +81,5 @@ fn expect_each_statement_write_fault<S: Alter + Drop>(
 /// written, and that the statement completes with room for all bytes.
 pub fn a_failed_write_ends_the_statement(alloc: Global) -> Result<(), Fail> {
     let asked = account_and_days(100, "2024-03-01", "2024-03-31")?;
-    expect_each_statement_write_fault(alloc, open_in_memory(alloc), asked)
+    expect_each_statement_write_fault(alloc, open_in_memory(alloc), &asked)
 }

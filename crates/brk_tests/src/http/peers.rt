@@ -82,32 +82,14 @@ fn serve_at_first_timestamp<S: Alter>(
 fn expect_two_streams_served<S: Alter + Drop>(
     alloc: Global,
     conn: Option<Connection<S>>,
-    listener: &mut MemoryListener<'_>,
+    waiting: Vec<MemoryPeer<'_>>,
 ) -> Result<(), Fail> {
     let mut desk = desk_with_reference_data(alloc, conn)?;
-    let served = serve_at_first_timestamp(alloc, listener, 2, &mut desk);
-    expect(served == Ok(()), "two streams")?;
-    let served = serve_at_first_timestamp(alloc, listener, 1, &mut desk);
-    expect(served == Err(ListenFault::Net), "no stream")
-}
-
-// Serves two peers, which send the requests and store what they receive.
-fn expect_peers_served(
-    alloc: Global,
-    first: &mut Vec<u8>,
-    second: &mut Vec<u8>,
-) -> Result<(), Fail> {
-    let mut waiting = Vec::new(alloc);
-    waiting.push(MemoryPeer {
-        sent: QUERY.0.as_bytes(),
-        received: second,
-    })?;
-    waiting.push(MemoryPeer {
-        sent: ORDER.0.as_bytes(),
-        received: first,
-    })?;
     let mut listener = MemoryListener { waiting };
-    expect_two_streams_served(alloc, open_in_memory(alloc), &mut listener)
+    let served = serve_at_first_timestamp(alloc, &mut listener, 2, &mut desk);
+    expect(served == Ok(()), "two streams")?;
+    let served = serve_at_first_timestamp(alloc, &mut listener, 1, &mut desk);
+    expect(served == Err(ListenFault::Net), "no stream")
 }
 
 /// Checks that two peers are served in sequence on one desk in memory, that the one that sends an
@@ -115,7 +97,16 @@ fn expect_peers_served(
 /// with `Net` once no peer is left. Fails also if the desk cannot be set up or memory runs out.
 pub fn peers_in_memory_receive_their_replies(alloc: Global) -> Result<(), Fail> {
     let (mut first, mut second) = (Vec::new(alloc), Vec::new(alloc));
-    expect_peers_served(alloc, &mut first, &mut second)?;
+    let mut waiting = Vec::new(alloc);
+    waiting.push(MemoryPeer {
+        sent: QUERY.0.as_bytes(),
+        received: &mut second,
+    })?;
+    waiting.push(MemoryPeer {
+        sent: ORDER.0.as_bytes(),
+        received: &mut first,
+    })?;
+    expect_two_streams_served(alloc, open_in_memory(alloc), waiting)?;
     expect(first.as_slice() == ORDER.1.as_bytes(), "the order")?;
     expect(second.as_slice() == QUERY.1.as_bytes(), "the query")
 }
