@@ -913,6 +913,13 @@ STATEMENTS = {
         (select, 'CustomerTaxByKey', 'customer_tax', [('CX_C_ID', 1), ('CX_TX_ID', 2)], [('CX_C_ID', False), ('CX_TX_ID', False)]),
         (select, 'BandsFor', 'band', [('CR_C_TIER', 1), ('CR_TT_ID', 2), ('CR_EX_ID', 3)], [('CR_C_TIER', False), ('CR_TT_ID', False), ('CR_EX_ID', False), ('CR_FROM_QTY', False)]),
         (select, 'CustomerTaxesOf', 'customer_tax', [('CX_C_ID', 1)], [('CX_C_ID', False), ('CX_TX_ID', False)]),
+        (select, 'AllCustomers', 'customer', [], [('C_ID', False)]),
+        (select, 'AllPermissions', 'permission', [], [('AP_CA_ID', False), ('AP_TAX_ID', False)]),
+        (select, 'AllSecurities', 'security', [], [('S_SYMB', False)]),
+        (select, 'AllCharges', 'charge', [], [('CH_TT_ID', False), ('CH_C_TIER', False)]),
+        (select, 'AllBands', 'band', [], [('CR_C_TIER', False), ('CR_TT_ID', False), ('CR_EX_ID', False), ('CR_FROM_QTY', False)]),
+        (select, 'AllTaxRates', 'tax_rate', [], [('TX_ID', False)]),
+        (select, 'AllCustomerTaxes', 'customer_tax', [], [('CX_C_ID', False), ('CX_TX_ID', False)]),
     ],
     'brk_tables_trading/proofs': [
         (insert, 'AddTrade', 'trade', [1, 2, 3, 4, 5, 6, 7, 8, 9, 10, 11, 12, 13, 14, 15]),

@@ -3,3 +3,4 @@ pub mod Groups
 pub mod Index
 pub mod Parts
 pub mod Prices
+pub mod Terms

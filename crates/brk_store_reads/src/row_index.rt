@@ -6,6 +6,7 @@ ghost use Rattle.brk_ref.specs.Rows.{abstract_cash_row, abstract_holding_row, ab
 ghost use Rattle.brk_store_index.specs.Index.{IsIndexOf};
 ghost use Rattle.brk_store_transactions.specs.Holds.{ReadPost};
 
+use crate::terms::read_terms;
 use brk_money::CallFault;
 use brk_ref::{AccountRow, CashRow, HoldingRow, LastTrade, LotChange, TradeRow};
 use brk_store_index::RowIndex;
@@ -107,6 +108,7 @@ pub fn read_row_index<S: Alter>(
     let changes = read_all_lot_changes(conn, alloc)?;
     let cash = read_all_cash_rows(conn, alloc)?;
     let last_trades = read_all_last_trades(conn, alloc)?;
+    let terms = read_terms(conn, alloc)?;
     match RowIndex::of_rows(
         alloc,
         &lots,
@@ -115,6 +117,7 @@ pub fn read_row_index<S: Alter>(
         &changes,
         &cash,
         &last_trades,
+        terms,
     ) {
         Ok(index) => Ok(index),
         Err(_) => Err(CallFault::Memory),

@@ -21,6 +21,14 @@ pub mod TaxRateById
 pub mod CustomerTaxByKey
 pub mod BandsFor
 pub mod CustomerTaxesOf
+pub mod AllCustomers
+pub mod AllPermissions
+pub mod AllSecurities
+pub mod AllCharges
+pub mod AllBands
+pub mod AllTaxRates
+pub mod AllCustomerTaxes
 pub mod Steps
 pub mod ReferenceAdds
 pub mod ReferenceReads
+pub mod WholeReads

@@ -1,11 +1,11 @@
 //! Commission bands (COMMISSION_RATE).
 
-ghost use Rattle.std.specs.Prelude.{◌≡◌, ◌==◌, ◌&&◌, bytes_eq};
+ghost use Rattle.std.specs.Prelude.{◌≡◌, ◌==◌, ◌&&◌, bytes_eq, map};
 ghost use Rattle.brk_money.specs.Kinds.{is_same_trade_type};
 ghost use Rattle.brk_ref.specs.Records.{abstract_band};
 ghost use Rattle.brk_trade_rows.specs.Changes.{tables_with_band};
 ghost use Rattle.brk_tables_schema.specs.Desk.{Bands};
-ghost use Rattle.brk_tables_schema.specs.Statements.{ReadsMatchingRows, WritesDeskTables};
+ghost use Rattle.brk_tables_schema.specs.Statements.{ReadsMatchingRows, WritesDeskTables, ReadsDeskTables};
 
 use brk_money::{CallFault, StoreFailed, TradeType};
 use brk_ref::{Band, Exchange, Tier};
@@ -59,6 +59,23 @@ pub fn bands_for<S: Alter>(
             trade_type_param(kind),
             text_param(exchange.as_str()),
         ],
+    )?;
+    decode_rows(alloc, &rows)
+}
+
+/// Returns all commission bands, sorted by tier, code of the trade type, exchange and lower bound,
+/// ascending.
+pub fn all_bands<S: Alter>(
+    tx: &mut Transaction<'_, S>,
+    alloc: Global,
+) -> Result<Vec<Band>, CallFault>
+    ensures same_reference { tx.new.conn.ghost_name ≡ tx.old.conn.ghost_name }
+    ensures step { ReadsDeskTables S.Store tx.old tx.new result (λ all t. map abstract_band all.items ≡ t.bands) }
+{
+    let rows = select_rows(
+        tx,
+        "SELECT CR_C_TIER, CR_TT_ID, CR_EX_ID, CR_FROM_QTY, CR_TO_QTY, CR_RATE FROM COMMISSION_RATE ORDER BY CR_C_TIER, CR_TT_ID, CR_EX_ID, CR_FROM_QTY",
+        &[],
     )?;
     decode_rows(alloc, &rows)
 }

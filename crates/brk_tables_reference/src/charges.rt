@@ -1,16 +1,17 @@
-ghost use Rattle.std.specs.Prelude.{◌≡◌, ◌==◌, ◌&&◌};
+ghost use Rattle.std.specs.Prelude.{◌≡◌, ◌==◌, ◌&&◌, map};
 ghost use Rattle.brk_money.specs.Kinds.{is_same_trade_type};
 ghost use Rattle.brk_ref.specs.Records.{abstract_charge};
 ghost use Rattle.brk_trade_rows.specs.Changes.{tables_with_charge};
 ghost use Rattle.brk_tables_schema.specs.Desk.{Charges};
-ghost use Rattle.brk_tables_schema.specs.Statements.{ReadsFirstMatch, WritesDeskTables};
+ghost use Rattle.brk_tables_schema.specs.Statements.{ReadsFirstMatch, WritesDeskTables, ReadsDeskTables};
 
-use brk_money::{StoreFailed, TradeType};
+use brk_money::{CallFault, StoreFailed, TradeType};
 use brk_ref::{Charge, Tier};
 use brk_tables_schema::calls::{execute_statement, select_rows};
-use brk_tables_schema::record::decode_first_row;
+use brk_tables_schema::record::{decode_first_row, decode_rows};
 use brk_tables_schema::values::{charge_param, tier_param, trade_type_param};
 use sqlite::{Alter, Transaction};
+use std::alloc::Global;
 
 /// Inserts the charge of a trade type and a customer tier (CHARGE), which are its key.
 pub fn add_charge<S: Alter>(tx: &mut Transaction<'_, S>, charge: &Charge) -> Result<(), StoreFailed>
@@ -42,4 +43,20 @@ pub fn charge_for<S: Alter>(
         &[trade_type_param(kind), tier_param(tier)],
     )?;
     decode_first_row(&rows)
+}
+
+/// Returns all charges, sorted by the code of the trade type and by tier, ascending.
+pub fn all_charges<S: Alter>(
+    tx: &mut Transaction<'_, S>,
+    alloc: Global,
+) -> Result<Vec<Charge>, CallFault>
+    ensures same_reference { tx.new.conn.ghost_name ≡ tx.old.conn.ghost_name }
+    ensures step { ReadsDeskTables S.Store tx.old tx.new result (λ all t. map abstract_charge all.items ≡ t.charges) }
+{
+    let rows = select_rows(
+        tx,
+        "SELECT CH_TT_ID, CH_C_TIER, CH_CHRG FROM CHARGE ORDER BY CH_TT_ID, CH_C_TIER",
+        &[],
+    )?;
+    decode_rows(alloc, &rows)
 }

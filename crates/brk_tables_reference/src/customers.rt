@@ -1,15 +1,16 @@
-ghost use Rattle.std.specs.Prelude.{◌≡◌, ◌==◌, bytes_eq};
+ghost use Rattle.std.specs.Prelude.{◌≡◌, ◌==◌, bytes_eq, map};
 ghost use Rattle.brk_ref.specs.Records.{abstract_customer};
 ghost use Rattle.brk_trade_rows.specs.Changes.{tables_with_customer};
 ghost use Rattle.brk_tables_schema.specs.Desk.{Customers};
-ghost use Rattle.brk_tables_schema.specs.Statements.{ReadsFirstMatch, WritesDeskTables};
+ghost use Rattle.brk_tables_schema.specs.Statements.{ReadsFirstMatch, WritesDeskTables, ReadsDeskTables};
 
-use brk_money::{Id, StoreFailed};
+use brk_money::{CallFault, Id, StoreFailed};
 use brk_ref::{Customer, TaxId};
 use brk_tables_schema::calls::{execute_statement, select_rows};
-use brk_tables_schema::record::decode_first_row;
+use brk_tables_schema::record::{decode_first_row, decode_rows};
 use brk_tables_schema::values::{id_param, text_param, tier_param};
 use sqlite::{Alter, Transaction};
+use std::alloc::Global;
 
 /// Inserts a customer (CUSTOMER). Fails also if the tax id exists.
 pub fn add_customer<S: Alter>(
@@ -60,4 +61,20 @@ pub fn customer_by_tax_id<S: Alter>(
         &[text_param(tax_id.as_str())],
     )?;
     decode_first_row(&rows)
+}
+
+/// Returns all customers, sorted by id, ascending.
+pub fn all_customers<S: Alter>(
+    tx: &mut Transaction<'_, S>,
+    alloc: Global,
+) -> Result<Vec<Customer>, CallFault>
+    ensures same_reference { tx.new.conn.ghost_name ≡ tx.old.conn.ghost_name }
+    ensures step { ReadsDeskTables S.Store tx.old tx.new result (λ all t. map abstract_customer all.items ≡ t.customers) }
+{
+    let rows = select_rows(
+        tx,
+        "SELECT C_ID, C_TIER, C_TAX_ID, C_L_NAME, C_F_NAME FROM CUSTOMER ORDER BY C_ID",
+        &[],
+    )?;
+    decode_rows(alloc, &rows)
 }

@@ -16,12 +16,13 @@ pub mod securities;
 pub mod tax_rates;
 
 pub use accounts::{account_by_id, accounts_of_customer, add_account, all_accounts};
-pub use bands::{add_band, bands_for};
+pub use bands::{add_band, all_bands, bands_for};
 pub use brokers::{add_broker, broker_by_id};
-pub use charges::{add_charge, charge_for};
-pub use customers::{add_customer, customer_by_id, customer_by_tax_id};
-pub use permissions::{add_permission, permission_for};
-pub use securities::{add_last_trade, add_security, security_by_symbol};
+pub use charges::{add_charge, all_charges, charge_for};
+pub use customers::{add_customer, all_customers, customer_by_id, customer_by_tax_id};
+pub use permissions::{add_permission, all_permissions, permission_for};
+pub use securities::{add_last_trade, add_security, all_securities, security_by_symbol};
 pub use tax_rates::{
-    add_customer_tax, add_tax_rate, customer_tax_by_ids, tax_rate_by_id, taxes_of_customer,
+    add_customer_tax, add_tax_rate, all_customer_taxes, all_tax_rates, customer_tax_by_ids,
+    tax_rate_by_id, taxes_of_customer,
 };

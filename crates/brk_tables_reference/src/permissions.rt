@@ -1,15 +1,16 @@
-ghost use Rattle.std.specs.Prelude.{◌≡◌, ◌==◌, ◌&&◌, bytes_eq};
+ghost use Rattle.std.specs.Prelude.{◌≡◌, ◌==◌, ◌&&◌, bytes_eq, map};
 ghost use Rattle.brk_ref.specs.Records.{abstract_permission};
 ghost use Rattle.brk_trade_rows.specs.Changes.{tables_with_permission};
 ghost use Rattle.brk_tables_schema.specs.Desk.{Permissions};
-ghost use Rattle.brk_tables_schema.specs.Statements.{ReadsFirstMatch, WritesDeskTables};
+ghost use Rattle.brk_tables_schema.specs.Statements.{ReadsFirstMatch, WritesDeskTables, ReadsDeskTables};
 
-use brk_money::{Id, StoreFailed};
+use brk_money::{CallFault, Id, StoreFailed};
 use brk_ref::{Permission, TaxId};
 use brk_tables_schema::calls::{execute_statement, select_rows};
-use brk_tables_schema::record::decode_first_row;
+use brk_tables_schema::record::{decode_first_row, decode_rows};
 use brk_tables_schema::values::{id_param, text_param};
 use sqlite::{Alter, Transaction};
+use std::alloc::Global;
 
 /// Inserts the permission of a person, known by tax id, to order for an account
 /// (ACCOUNT_PERMISSION).
@@ -47,4 +48,20 @@ pub fn permission_for<S: Alter>(
         &[id_param(account), text_param(tax_id.as_str())],
     )?;
     decode_first_row(&rows)
+}
+
+/// Returns all permissions, sorted by account and tax id, ascending.
+pub fn all_permissions<S: Alter>(
+    tx: &mut Transaction<'_, S>,
+    alloc: Global,
+) -> Result<Vec<Permission>, CallFault>
+    ensures same_reference { tx.new.conn.ghost_name ≡ tx.old.conn.ghost_name }
+    ensures step { ReadsDeskTables S.Store tx.old tx.new result (λ all t. map abstract_permission all.items ≡ t.permissions) }
+{
+    let rows = select_rows(
+        tx,
+        "SELECT AP_CA_ID, AP_TAX_ID, AP_ACL, AP_L_NAME, AP_F_NAME FROM ACCOUNT_PERMISSION ORDER BY AP_CA_ID, AP_TAX_ID",
+        &[],
+    )?;
+    decode_rows(alloc, &rows)
 }

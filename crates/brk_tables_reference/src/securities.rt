@@ -1,17 +1,18 @@
 //! Securities (SECURITY), and the insertion of their last trades on the market (LAST_TRADE).
 
-ghost use Rattle.std.specs.Prelude.{◌≡◌, bytes_eq};
+ghost use Rattle.std.specs.Prelude.{◌≡◌, bytes_eq, map};
 ghost use Rattle.brk_ref.specs.Records.{abstract_security_row, abstract_last_trade_row};
 ghost use Rattle.brk_trade_rows.specs.Changes.{tables_with_security, tables_with_last_trade};
 ghost use Rattle.brk_tables_schema.specs.Desk.{Securities};
-ghost use Rattle.brk_tables_schema.specs.Statements.{ReadsFirstMatch, WritesDeskTables};
+ghost use Rattle.brk_tables_schema.specs.Statements.{ReadsFirstMatch, WritesDeskTables, ReadsDeskTables};
 
-use brk_money::StoreFailed;
+use brk_money::{CallFault, StoreFailed};
 use brk_ref::{LastTrade, Security, Symbol};
 use brk_tables_schema::calls::{execute_statement, select_rows};
-use brk_tables_schema::record::decode_first_row;
+use brk_tables_schema::record::{decode_first_row, decode_rows};
 use brk_tables_schema::values::{price_param, stamp_param, text_param, volume_param};
 use sqlite::{Alter, Transaction};
+use std::alloc::Global;
 
 /// Inserts a security (SECURITY), without its last trade.
 pub fn add_security<S: Alter>(
@@ -66,4 +67,20 @@ pub fn security_by_symbol<S: Alter>(
         &[text_param(symbol.as_str())],
     )?;
     decode_first_row(&rows)
+}
+
+/// Returns all securities, sorted by symbol, ascending.
+pub fn all_securities<S: Alter>(
+    tx: &mut Transaction<'_, S>,
+    alloc: Global,
+) -> Result<Vec<Security>, CallFault>
+    ensures same_reference { tx.new.conn.ghost_name ≡ tx.old.conn.ghost_name }
+    ensures step { ReadsDeskTables S.Store tx.old tx.new result (λ all t. map abstract_security_row all.items ≡ t.securities) }
+{
+    let rows = select_rows(
+        tx,
+        "SELECT S_SYMB, S_NAME, S_EX_ID, S_SECTOR FROM SECURITY ORDER BY S_SYMB",
+        &[],
+    )?;
+    decode_rows(alloc, &rows)
 }

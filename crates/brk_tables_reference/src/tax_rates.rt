@@ -1,10 +1,10 @@
 //! Tax rates (TAXRATE), and the taxes that customers pay (CUSTOMER_TAXRATE).
 
-ghost use Rattle.std.specs.Prelude.{◌≡◌, ◌==◌, ◌&&◌};
+ghost use Rattle.std.specs.Prelude.{◌≡◌, ◌==◌, ◌&&◌, map};
 ghost use Rattle.brk_ref.specs.Records.{abstract_tax_rate, abstract_customer_tax};
 ghost use Rattle.brk_trade_rows.specs.Changes.{tables_with_tax_rate, tables_with_customer_tax};
 ghost use Rattle.brk_tables_schema.specs.Desk.{CustomerTaxes, TaxRates};
-ghost use Rattle.brk_tables_schema.specs.Statements.{ReadsFirstMatch, ReadsMatchingRows, WritesDeskTables};
+ghost use Rattle.brk_tables_schema.specs.Statements.{ReadsFirstMatch, ReadsMatchingRows, WritesDeskTables, ReadsDeskTables};
 
 use brk_money::{CallFault, Id, StoreFailed};
 use brk_ref::{CustomerTax, Tax};
@@ -90,6 +90,38 @@ pub fn taxes_of_customer<S: Alter>(
         tx,
         "SELECT CX_C_ID, CX_TX_ID FROM CUSTOMER_TAXRATE WHERE CX_C_ID = ?1 ORDER BY CX_C_ID, CX_TX_ID",
         &[id_param(customer)],
+    )?;
+    decode_rows(alloc, &rows)
+}
+
+/// Returns all taxes with their rates, sorted by id, ascending.
+pub fn all_tax_rates<S: Alter>(
+    tx: &mut Transaction<'_, S>,
+    alloc: Global,
+) -> Result<Vec<Tax>, CallFault>
+    ensures same_reference { tx.new.conn.ghost_name ≡ tx.old.conn.ghost_name }
+    ensures step { ReadsDeskTables S.Store tx.old tx.new result (λ all t. map abstract_tax_rate all.items ≡ t.tax_rates) }
+{
+    let rows = select_rows(
+        tx,
+        "SELECT TX_ID, TX_NAME, TX_RATE FROM TAXRATE ORDER BY TX_ID",
+        &[],
+    )?;
+    decode_rows(alloc, &rows)
+}
+
+/// Returns all taxes that customers pay, sorted by customer and tax, ascending.
+pub fn all_customer_taxes<S: Alter>(
+    tx: &mut Transaction<'_, S>,
+    alloc: Global,
+) -> Result<Vec<CustomerTax>, CallFault>
+    ensures same_reference { tx.new.conn.ghost_name ≡ tx.old.conn.ghost_name }
+    ensures step { ReadsDeskTables S.Store tx.old tx.new result (λ all t. map abstract_customer_tax all.items ≡ t.customer_taxes) }
+{
+    let rows = select_rows(
+        tx,
+        "SELECT CX_C_ID, CX_TX_ID FROM CUSTOMER_TAXRATE ORDER BY CX_C_ID, CX_TX_ID",
+        &[],
     )?;
     decode_rows(alloc, &rows)
 }

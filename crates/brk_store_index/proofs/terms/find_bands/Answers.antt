@@ -1,0 +1,26 @@
+use Rattle.std.proofs.Common.{◌≡◌, ◌∙◌, ◌==◌, ◌&&◌, ◌++◌, ◌∷◌, [], Bool, ap, filter, map, sym}
+use Rattle.std.specs.Prelude.{bytes_eq}
+use Rattle.std.proofs.lemmas.List.{map-append, take_all}
+use Rattle.brk_money.specs.Kinds.{is_same_trade_type}
+use Rattle.brk_model.specs.Records.{Band}
+use Rattle.brk_ref.specs.Records.{abstract_band}
+use Rattle.brk_store_index.proofs.Ranking.{kept_more, left_more}
+use Rattle.brk_store_index.proofs.terms.find_bands.Goals as goal
+
+pub loop-band-preserved-then-is_band_for : goal.loop-band-preserved-then-is_band_for
+loop-band-preserved-then-is_band_for c =
+    let test : Band → Bool = λ r. (r.tier == c.args.tier) && is_same_trade_type r.kind c.args.kind && bytes_eq r.exchange c.args.exchange.now in
+    let found = c.loop-band.found.items in
+    ap (map abstract_band) c.in_ok-push.ensures.items ∙ map-append abstract_band found (c.in_ok-copy.copy ∷ []) ∙ ap (λ b. map abstract_band found ++ b ∷ []) c.in_ok-copy.ensures
+    ∙ kept_more abstract_band test c.args.rows.now c.loop-band.band-index c.band-item.result (map abstract_band found) c.loop-band-test.true c.band-item.is (sym c.is_band_for.ensures ∙ c.if-is_band_for.true) c.loop-band.invariant
+
+pub loop-band-preserved : goal.loop-band-preserved
+loop-band-preserved c =
+    let test : Band → Bool = λ r. (r.tier == c.args.tier) && is_same_trade_type r.kind c.args.kind && bytes_eq r.exchange c.args.exchange.now in
+    left_more abstract_band test c.args.rows.now c.loop-band.band-index c.band-item.result (map abstract_band c.loop-band.found.items) c.loop-band-test.true c.band-item.is
+    (sym c.is_band_for.ensures ∙ c.if-is_band_for.false) c.loop-band.invariant
+
+pub returns : goal.returns
+returns c =
+    let test : Band → Bool = λ r. (r.tier == c.args.tier) && is_same_trade_type r.kind c.args.kind && bytes_eq r.exchange c.args.exchange.now in
+    c.loop-band.invariant ∙ ap (λ l. filter test (map abstract_band l)) (take_all c.loop-band.band-index c.args.rows.now c.loop-band-test.false)

@@ -1,0 +1,82 @@
+//! The terms of orders in memory, made of what the tables have.
+
+ghost use Rattle.std.specs.Prelude.{◌≡◌, false, map};
+ghost use Rattle.brk_ref.specs.Records.{abstract_band, abstract_charge, abstract_customer_tax, abstract_tax_rate};
+ghost use Rattle.brk_store_index.specs.Terms.{AreTermsOf};
+ghost use Rattle.brk_store_transactions.specs.Holds.{ReadPost};
+
+use brk_money::CallFault;
+use brk_ref::{Band, Charge, CustomerTax, Tax};
+use brk_store_index::Terms;
+use brk_store_transactions::begin_transaction;
+use sqlite::{Alter, Connection};
+use std::alloc::Global;
+
+#[tactic(auto, using(brk_store_transactions::proofs::Ending::read_is_over))]
+fn read_all_charges<S: Alter>(
+    conn: &mut Connection<S>,
+    alloc: Global,
+) -> Result<Vec<Charge>, CallFault>
+    requires { conn.old.in_transaction ≡ false }
+    ensures mode { conn.new.in_transaction ≡ false }
+    ensures read { ReadPost S.Store conn.old conn.new result (λ all t. map abstract_charge all.items ≡ t.charges) }
+{
+    let mut tx = begin_transaction(conn);
+    brk_tables_reference::all_charges(&mut tx, alloc)
+}
+
+#[tactic(auto, using(brk_store_transactions::proofs::Ending::read_is_over))]
+fn read_all_bands<S: Alter>(conn: &mut Connection<S>, alloc: Global) -> Result<Vec<Band>, CallFault>
+    requires { conn.old.in_transaction ≡ false }
+    ensures mode { conn.new.in_transaction ≡ false }
+    ensures read { ReadPost S.Store conn.old conn.new result (λ all t. map abstract_band all.items ≡ t.bands) }
+{
+    let mut tx = begin_transaction(conn);
+    brk_tables_reference::all_bands(&mut tx, alloc)
+}
+
+#[tactic(auto, using(brk_store_transactions::proofs::Ending::read_is_over))]
+fn read_all_tax_rates<S: Alter>(
+    conn: &mut Connection<S>,
+    alloc: Global,
+) -> Result<Vec<Tax>, CallFault>
+    requires { conn.old.in_transaction ≡ false }
+    ensures mode { conn.new.in_transaction ≡ false }
+    ensures read { ReadPost S.Store conn.old conn.new result (λ all t. map abstract_tax_rate all.items ≡ t.tax_rates) }
+{
+    let mut tx = begin_transaction(conn);
+    brk_tables_reference::all_tax_rates(&mut tx, alloc)
+}
+
+#[tactic(auto, using(brk_store_transactions::proofs::Ending::read_is_over))]
+fn read_all_customer_taxes<S: Alter>(
+    conn: &mut Connection<S>,
+    alloc: Global,
+) -> Result<Vec<CustomerTax>, CallFault>
+    requires { conn.old.in_transaction ≡ false }
+    ensures mode { conn.new.in_transaction ≡ false }
+    ensures read { ReadPost S.Store conn.old conn.new result (λ all t. map abstract_customer_tax all.items ≡ t.customer_taxes) }
+{
+    let mut tx = begin_transaction(conn);
+    brk_tables_reference::all_customer_taxes(&mut tx, alloc)
+}
+
+/// Returns the terms of all rows of CHARGE, COMMISSION_RATE, TAXRATE and CUSTOMER_TAXRATE. Fails with
+/// `Memory` also if a customer has a tax twice.
+pub(crate) fn read_terms<S: Alter>(
+    conn: &mut Connection<S>,
+    alloc: Global,
+) -> Result<Terms, CallFault>
+    requires { conn.old.in_transaction ≡ false }
+    ensures mode { conn.new.in_transaction ≡ false }
+    ensures read { ReadPost S.Store conn.old conn.new result AreTermsOf }
+{
+    let customer_taxes = read_all_customer_taxes(conn, alloc)?;
+    let charges = read_all_charges(conn, alloc)?;
+    let bands = read_all_bands(conn, alloc)?;
+    let taxes = read_all_tax_rates(conn, alloc)?;
+    match Terms::of_rows(alloc, charges, bands, taxes, &customer_taxes) {
+        Ok(terms) => Ok(terms),
+        Err(_) => Err(CallFault::Memory),
+    }
+}

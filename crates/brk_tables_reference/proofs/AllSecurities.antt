@@ -1,0 +1,29 @@
+-- Written by tools/generate/tables.py: the meaning of a SELECT.
+use Rattle.std.proofs.Common.{ℕ, pos, negsuc, List, [], ◌∷◌, codes, false, None, refl}
+use Rattle.sqlite.specs.declared.types.Value.TheVariants.{Int}
+use Rattle.sqlite.specs.Term.{Term, lit}
+use Rattle.sqlite_tied.specs.Compute.{everything}
+use Rattle.brk_tables_sql.proofs.Asked.{Ask, IsAsked, IsPlain, asks_plainly}
+use Rattle.brk_tables_schema.specs.Shapes.{security_table}
+
+abbrev pub statement : List ℕ
+statement = codes "SELECT S_SYMB, S_NAME, S_EX_ID, S_SECTOR FROM SECURITY ORDER BY S_SYMB"
+
+abbrev pub ask : Ask
+ask = record {
+  shown = 0 ∷ 1 ∷ 2 ∷ 3 ∷ [];
+  tests = None;
+  by = (0, false) ∷ [];
+  limit = None;
+  offset = None;
+}
+
+abbrev pub paging : Term × Term
+paging = (lit (Int (negsuc 0)), lit (Int (pos 0)))
+
+pub is_asked : IsAsked security_table statement ask paging
+unfolding everything
+is_asked = record { reads = λ tree. (refl, refl, refl); sound = λ tree. refl; paged = λ schema tree. refl }
+
+pub plain : IsPlain statement
+plain = asks_plainly security_table statement ask paging is_asked
