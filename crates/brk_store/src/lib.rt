@@ -7,6 +7,8 @@ mod brokers;
 mod cash;
 mod holdings;
 mod index;
+mod known;
+mod known_terms;
 mod lot_changes;
 mod lots;
 mod numbers;
