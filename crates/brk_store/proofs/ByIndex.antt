@@ -20,7 +20,7 @@ use Rattle.brk_store_index.proofs.PositionLots.{lots_found}
 use Rattle.brk_store_transactions.specs.Holds.{HoldsRows}
 use Rattle.brk_store.specs.Indexed.{HasRowOfEachAge, IndexIsTrue}
 use Rattle.brk_store.specs.Pages.{lot_rows_in_closing_order}
-use Rattle.brk_store.specs.declared.index.StoreIndex.TheVariants.{Made}
+use Rattle.brk_store_index.specs.declared.store_index.StoreIndex.TheVariants.{Made}
 use Rattle.brk_store.proofs.WalkedLists.{holdings_climb}
 
 same_order : {X : Type 0} (lifo : Bool) (xs : List X) → in_order lifo xs ≡ list_reversed_if_lifo lifo xs

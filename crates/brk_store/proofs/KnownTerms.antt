@@ -17,26 +17,24 @@ use Rattle.brk_model.specs.Tables.{Tables}
 use Rattle.brk_tables_sql.specs.Rows.{IsStrictlyAscending}
 use Rattle.brk_tables_schema.specs.Desk.{CustomerTaxes, ordering_by_primary_key}
 use Rattle.brk_tables_schema.specs.Made.{HasDeskTables}
-use Rattle.brk_store_index.specs.Terms.{AreTermsOf}
-use Rattle.brk_store_index.specs.declared.index.RowIndex.{RowIndex}
+use Rattle.brk_store_index.specs.IfMade.{IsIndexIfMade}
 use Rattle.brk_store_transactions.specs.Holds.{ReadPost}
-use Rattle.brk_store.specs.Indexed.{IndexIsTrue, IsIndexOfDatabase}
-use Rattle.brk_store.specs.declared.index.StoreIndex.{StoreIndex}
-use Rattle.brk_store.specs.declared.index.StoreIndex.TheVariants.{Made}
+use Rattle.brk_store.specs.Indexed.{IndexIsTrue}
+use Rattle.brk_store_index.specs.declared.store_index.StoreIndex.{StoreIndex}
 use Rattle.brk_store.proofs.TradesByIndex.{told_by_index}
-use Rattle.brk_store.proofs.ValuesByIndex.{index_of_tables}
+use Rattle.brk_store.proofs.ValuesByIndex.{index_if_made}
 use Rattle.brk_store.proofs.WalkedLists.{IsStrictlyAscendingBy}
 
 -- what is known of an index is told as if it was read, of a store by another name
 pub known_told : {S V E : Type 0} (g : Ghosts S) (conn end store : Held S) → conn ≡ store → (index : StoreIndex) → IndexIsTrue g conn index → (v : V) (tells : V → Tables → Type 0)
-    → ((db : Database) (t : Tables) → IsIndexOfDatabase index db → HasDeskTables t db → tells v t) → (result : Result V E) → ReadPost g conn end result (λ known t. known ≡ v)
+    → ((db : Database) (t : Tables) → HasDeskTables t db → IsIndexIfMade index t → tells v t) → (result : Result V E) → ReadPost g conn end result (λ known t. known ≡ v)
     → ReadPost g store end result tells
 known_told g conn end store same index is v tells tell result read =
     told_by_index g conn end store same result (λ known t. known ≡ v) tells
-    (λ clean on t holds k shown. subst (λ x. tells x t) (sym shown) (tell (state g conn).now t (is.indexed clean on) (holds clean on))) read
-
-pub terms_of_tables : (index : RowIndex) (db : Database) (t : Tables) → IsIndexOfDatabase (Made index) db → HasDeskTables t db → AreTermsOf index.terms t
-terms_of_tables index db t is has = (index_of_tables index db t is has).terms
+    (λ clean on t holds k shown.
+    let db = (state g conn).now in
+    subst (λ x. tells x t) (sym shown) (tell db t (holds clean on) (index_if_made index db t (is.indexed clean on) (holds clean on))))
+    read
 
 -- ---- the taxes of a customer climb by the tax
 

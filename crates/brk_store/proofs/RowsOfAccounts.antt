@@ -29,7 +29,7 @@ use Rattle.brk_store_reads.proofs.ByAges.{found_of_ages}
 use Rattle.brk_tables_views.specs.Lists.{cash_sort_key, is_account_cash_row_between, lot_sort_key}
 use Rattle.brk_store.specs.Indexed.{IndexIsTrue}
 use Rattle.brk_store.specs.Walked.{cash_rows_in_span}
-use Rattle.brk_store.specs.declared.index.StoreIndex.TheVariants.{Made}
+use Rattle.brk_store_index.specs.declared.store_index.StoreIndex.TheVariants.{Made}
 use Rattle.brk_store.proofs.TradesByIndex.{index_of_rows, swapped, three_tests}
 use Rattle.brk_store.proofs.WalkedLists.{cash_same, holdings_climb, lots_same, moves_climb}
 

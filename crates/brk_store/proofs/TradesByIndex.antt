@@ -34,7 +34,7 @@ use Rattle.brk_store.specs.Indexed.{IndexIsTrue}
 use Rattle.brk_store_reads.specs.RowsByAge.{AreRowsOfAges}
 use Rattle.brk_store_reads.specs.ReadSequences.{disk_was_clean_before_reads, single_read_changes_nothing}
 use Rattle.brk_store_reads.specs.RowsByAge.{AreFirstTwentyBetween, IsFirstAgeSince}
-use Rattle.brk_store.specs.declared.index.StoreIndex.TheVariants.{Made}
+use Rattle.brk_store_index.specs.declared.store_index.StoreIndex.TheVariants.{Made}
 use Rattle.brk_store_reads.proofs.ByAges.{found_of_ages, read_weaker}
 use Rattle.brk_store.proofs.WalkedLists.{accounts_climb, changes_climb, trades_climb}
 

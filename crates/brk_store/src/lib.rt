@@ -8,7 +8,6 @@ mod cash;
 mod holdings;
 mod index;
 mod known;
-mod known_terms;
 mod lot_changes;
 mod lots;
 mod numbers;

@@ -12,10 +12,9 @@ ghost use Rattle.brk_tables_schema.specs.Desk.{Accounts, Brokers, Customers, Kep
 ghost use Rattle.brk_tables_schema.specs.Statements.{IsFirstMatch, AreMatchingRows};
 
 use crate::Store;
-use crate::index::StoreIndex;
 use brk_money::{CallFault, Id, Stamp, StoreFailed};
 use brk_ref::{AccountRow, BrokerRow, Customer, Kept, Key, TaxId};
-use brk_store_index::Group;
+use brk_store_index::{Group, StoreIndex};
 use brk_store_reads::accounts_by_age::AccountsOfCustomer;
 use brk_store_reads::by_age::read_all_rows;
 use brk_store_transactions::begin_transaction;

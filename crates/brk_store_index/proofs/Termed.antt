@@ -1,5 +1,5 @@
 -- The terms of an index after one was added, and the taxes of a customer by their ages.
-use Rattle.std.proofs.Common.{◌≡◌, ◌∙◌, ◌==◌, ℕ, Bool, List, [], ◌∷◌, Some, Result, Ok, Err, OnOk, ap, filter, map, refl, subst, sym}
+use Rattle.std.proofs.Common.{◌≡◌, ◌∙◌, ◌==◌, ℕ, List, [], ◌∷◌, Some, Result, Ok, Err, OnOk, ap, filter, map, refl, subst, sym}
 use Rattle.std.specs.Global.{Vec}
 use Rattle.std.proofs.lemmas.Bool.{eqb-true}
 use Rattle.brk_model.specs.Keys.{band_key, charge_key, customer_tax_key, is_row_key_less, tax_rate_key}
@@ -46,13 +46,11 @@ customer_tax_inserted old new r rows inserts is =
 pub customer_taxes_found : (customer : ℕ) (rows : List CustomerTax) → RisesBy (λ (r : CustomerTax). r.tax) (filter (λ (r : CustomerTax). r.customer == customer) rows) → (groups : AgesByNumber) → AreCustomerTaxesOf groups rows
     → map (customer_tax_of_age customer) (ages_of_number groups customer) ≡ filter (λ (r : CustomerTax). r.customer == customer) rows
 customer_taxes_found customer rows up groups are =
+    let mine = λ (r : CustomerTax). r.customer == customer in
     all_by_id (λ (r : CustomerTax). r.tax) (filter mine rows) up (ages_of_number groups customer) (are customer) (λ a. Some (customer_tax_of_age customer a))
-    (λ x h. ap (λ (n : ℕ). Some (record { customer = n; tax = x.tax })) (sym (eqb-true x.customer customer (has_filtered mine rows x h).1)))
+    (λ x h. ap (λ (n : ℕ). Some (customer_tax_of_age n (age_of_id x.tax))) (sym (eqb-true x.customer customer (has_filtered mine rows x h).1)))
     (map (customer_tax_of_age customer) (ages_of_number groups customer)) (somes (ages_of_number groups customer))
   where
-    abbrev mine : CustomerTax → Bool
-    mine r = r.customer == customer
-
     somes : (ages : List RowAge) → map Some (map (customer_tax_of_age customer) ages) ≡ map (λ a. Some (customer_tax_of_age customer a)) ages
     somes [] = refl
     somes (a ∷ ages) = ap (λ l. Some (customer_tax_of_age customer a) ∷ l) (somes ages)

@@ -4,3 +4,4 @@ pub mod Index
 pub mod Parts
 pub mod Prices
 pub mod Terms
+pub mod IfMade

@@ -13,6 +13,7 @@ pub mod lost;
 mod lots;
 mod prices;
 mod ranked;
+pub mod store_index;
 pub mod terms;
 mod trades;
 
@@ -21,4 +22,5 @@ pub use group::Group;
 pub use index::RowIndex;
 pub use lost::IndexLost;
 pub use prices::add_market_value;
+pub use store_index::StoreIndex;
 pub use terms::Terms;

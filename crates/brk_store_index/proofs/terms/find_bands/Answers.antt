@@ -7,6 +7,9 @@ use Rattle.brk_ref.specs.Records.{abstract_band}
 use Rattle.brk_store_index.proofs.Ranking.{kept_more, left_more}
 use Rattle.brk_store_index.proofs.terms.find_bands.Goals as goal
 
+pub loop-band-init : goal.loop-band-init
+loop-band-init c = ap (map abstract_band) c.new-found.ensures.items
+
 pub loop-band-preserved-then-is_band_for : goal.loop-band-preserved-then-is_band_for
 loop-band-preserved-then-is_band_for c =
     let test : Band → Bool = λ r. (r.tier == c.args.tier) && is_same_trade_type r.kind c.args.kind && bytes_eq r.exchange c.args.exchange.now in

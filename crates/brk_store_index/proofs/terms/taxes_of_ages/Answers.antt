@@ -5,6 +5,9 @@ use Rattle.brk_store_index.specs.Terms.{customer_tax_of_age}
 use Rattle.brk_store_index.proofs.Elements.{mapped_more}
 use Rattle.brk_store_index.proofs.terms.taxes_of_ages.Goals as goal
 
+pub loop-place-init : goal.loop-place-init
+loop-place-init c = record { all = ap (map abstract_customer_tax) c.new-all.ensures.items; within = omega arith }
+
 pub loop-place-preserved : goal.loop-place-preserved
 loop-place-preserved c =
     let items = c.args.ages.now.items in

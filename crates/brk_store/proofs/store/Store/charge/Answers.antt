@@ -12,5 +12,5 @@ returns-in-Some g c =
     record {
       read = known_told g.S.Store c.self.inside.conn c.known_if_open.new.conn c.args.self.now c.self.view_is c.self.inside.index c.self.invariant.1 c.in-Some.charge
           (λ (charge : Option typed.Charge) (t : Tables). option_map abstract_charge charge ≡ find (λ (r : Charge). is_same_trade_type r.kind c.args.kind && (r.tier == c.args.tier)) t.charges)
-          c.in-Some.ensures c.known_if_open.result c.known_if_open.ensures.read;
+          (λ db t has. c.in-Some.ensures t) c.known_if_open.result c.known_if_open.ensures.read;
     }

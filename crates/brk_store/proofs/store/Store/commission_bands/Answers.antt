@@ -14,5 +14,5 @@ returns-in-Some g c =
     record {
       read = known_told g.S.Store c.self.inside.conn c.known_rows_if_open.new.conn c.args.self.now c.self.view_is c.self.inside.index c.self.invariant.1 c.in-Some.bands
           (λ (bands : Vec typed.Band) (t : Tables). map abstract_band bands.items ≡ filter (λ (r : Band). (r.tier == c.args.tier) && is_same_trade_type r.kind c.args.kind && bytes_eq r.exchange c.args.exchange.now) t.bands)
-          c.in-Some.ensures c.known_rows_if_open.result c.known_rows_if_open.ensures.read;
+          (λ db t has. c.in-Some.ensures t) c.known_rows_if_open.result c.known_rows_if_open.ensures.read;
     }

@@ -11,5 +11,5 @@ returns-in-Some g c =
     record {
       read = known_told g.S.Store c.self.inside.conn c.known_if_open.new.conn c.args.self.now c.self.view_is c.self.inside.index c.self.invariant.1 c.in-Some.tax
           (λ (tax : Option typed.Tax) (t : Tables). option_map abstract_tax_rate tax ≡ find (λ (r : TaxRate). r.id == c.args.id) t.tax_rates)
-          c.in-Some.ensures c.known_if_open.result c.known_if_open.ensures.read;
+          (λ db t has. c.in-Some.ensures t) c.known_if_open.result c.known_if_open.ensures.read;
     }
