@@ -4,6 +4,7 @@ pub mod Placing
 pub mod Places
 pub mod Trading
 pub mod Pricing
+pub mod ByKeys
 pub mod Ranking
 pub mod Aged
 pub mod Changing

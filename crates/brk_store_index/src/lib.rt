@@ -5,6 +5,7 @@
 
 pub mod age;
 pub mod ages;
+mod by_key;
 mod by_number;
 mod by_position;
 pub mod group;
