@@ -12,6 +12,7 @@ ghost use Rattle.brk_tables_schema.specs.Desk.{Accounts, Brokers, Customers, Kep
 ghost use Rattle.brk_tables_schema.specs.Statements.{IsFirstMatch, AreMatchingRows};
 
 use crate::Store;
+use crate::known::known_if_open;
 use brk_money::{CallFault, Id, Stamp, StoreFailed};
 use brk_ref::{AccountRow, BrokerRow, Customer, Kept, Key, TaxId};
 use brk_store_index::{Group, StoreIndex};
@@ -43,6 +44,9 @@ impl<S: Alter> Store<S> {
     pub fn customer(&mut self, id: Id) -> Result<Option<Customer>, StoreFailed>
         ensures read { ReadPost S.Store self.old self.new result (IsFirstMatch Customers abstract_customer (λ r. r.id == id)) }
     {
+        if let Some(customer) = self.index.customer(id) {
+            return known_if_open(&mut self.conn, customer);
+        }
         let mut tx = begin_transaction(&mut self.conn);
         brk_tables_reference::customer_by_id(&mut tx, id)
     }

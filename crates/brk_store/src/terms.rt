@@ -41,6 +41,9 @@ impl<S: Alter> Store<S> {
     pub fn security(&mut self, symbol: &Symbol) -> Result<Option<Security>, StoreFailed>
         ensures read { ReadPost S.Store self.old self.new result (IsFirstMatch Securities abstract_security_row (λ r. bytes_eq r.symbol symbol.now)) }
     {
+        if let Some(security) = self.index.security(symbol) {
+            return known_if_open(&mut self.conn, security);
+        }
         let mut tx = begin_transaction(&mut self.conn);
         brk_tables_reference::security_by_symbol(&mut tx, symbol)
     }

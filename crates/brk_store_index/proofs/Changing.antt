@@ -24,10 +24,12 @@ use Rattle.brk_ref.specs.declared.account.Account as typed_account
 use Rattle.brk_ref.specs.declared.band.Band as typed_band
 use Rattle.brk_ref.specs.declared.cash_row.CashRow as typed_cash
 use Rattle.brk_ref.specs.declared.charge.Charge as typed_charge
+use Rattle.brk_ref.specs.declared.customer.Customer as typed_customer
 use Rattle.brk_ref.specs.declared.customer_tax.CustomerTax as typed_customer_tax
 use Rattle.brk_ref.specs.declared.holding_row.HoldingRow as typed_lot
 use Rattle.brk_ref.specs.declared.last_trade.LastTrade as typed_last
 use Rattle.brk_ref.specs.declared.lot_change.LotChange as typed_change
+use Rattle.brk_ref.specs.declared.security.Security as typed_security
 use Rattle.brk_ref.specs.declared.tax.Tax as typed_tax
 use Rattle.brk_ref.specs.declared.trade_row.TradeRow as typed_trade
 use Rattle.brk_store_index.specs.declared.by_number.AgesByNumber.{AgesByNumber}
@@ -425,6 +427,8 @@ pub record IsOther (change : Change) : Type 0 where
   pub band_added : (b : typed_band.Band) → change ≡ AddBand b → ⊥
   pub tax_added : (x : typed_tax.Tax) → change ≡ AddTaxRate x → ⊥
   pub customer_tax_added : (x : typed_customer_tax.CustomerTax) → change ≡ AddCustomerTax x → ⊥
+  pub customer_added : (x : typed_customer.Customer) → change ≡ AddCustomer x → ⊥
+  pub security_added : (x : typed_security.Security) → change ≡ AddSecurity x → ⊥
 
 -- tables of which the tables of the index are equal
 unread : (index : RowIndex) (t u : Tables) → u.holdings ≡ t.holdings → u.trades ≡ t.trades → u.accounts ≡ t.accounts → u.holding_history ≡ t.holding_history
@@ -449,14 +453,14 @@ kept index (AddCharge x) t other is = absurd (other.charge_added x refl)
 kept index (AddBand x) t other is = absurd (other.band_added x refl)
 kept index (AddTaxRate x) t other is = absurd (other.tax_added x refl)
 kept index (AddCustomerTax x) t other is = absurd (other.customer_tax_added x refl)
+kept index (AddCustomer x) t other is = absurd (other.customer_added x refl)
+kept index (AddSecurity x) t other is = absurd (other.security_added x refl)
 kept index (SetLot trade qty) t other is = quantity_set index t is trade qty
 kept index (SetExecutor trade name) t other is = executor_set index t is trade (string_bytes name)
 kept index (SetBalance account balance) t other is = balance_set index t is account balance
 kept index (SetCashName trade name) t other is = cash_name_set index t is trade (string_bytes name)
 kept index (AddBroker x) t other is = unread index t (tables_after_change (AddBroker x) t) refl refl refl refl refl refl is.terms is
-kept index (AddCustomer x) t other is = unread index t (tables_after_change (AddCustomer x) t) refl refl refl refl refl refl is.terms is
 kept index (AddPermission x) t other is = unread index t (tables_after_change (AddPermission x) t) refl refl refl refl refl refl is.terms is
-kept index (AddSecurity x) t other is = unread index t (tables_after_change (AddSecurity x) t) refl refl refl refl refl refl is.terms is
 kept index (AddHistory x) t other is = unread index t (tables_after_change (AddHistory x) t) refl refl refl refl refl refl is.terms is
 kept index (AddRequest x) t other is = unread index t (tables_after_change (AddRequest x) t) refl refl refl refl refl refl is.terms is
 kept index (RemoveRequest x) t other is = unread index t (tables_after_change (RemoveRequest x) t) refl refl refl refl refl refl is.terms is

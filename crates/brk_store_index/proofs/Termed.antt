@@ -2,23 +2,27 @@
 use Rattle.std.proofs.Common.{◌≡◌, ◌∙◌, ◌==◌, ℕ, List, [], ◌∷◌, Some, Result, Ok, Err, OnOk, ap, filter, map, refl, subst, sym}
 use Rattle.std.specs.Global.{Vec}
 use Rattle.std.proofs.lemmas.Bool.{eqb-true}
-use Rattle.brk_model.specs.Keys.{band_key, charge_key, customer_tax_key, is_row_key_less, tax_rate_key}
+use Rattle.brk_model.specs.Keys.{band_key, charge_key, customer_key, customer_tax_key, is_row_key_less, security_key, tax_rate_key}
 use Rattle.brk_model.specs.Lists.{insert_by}
-use Rattle.brk_model.specs.Records.{Band, Charge, CustomerTax, TaxRate}
-use Rattle.brk_model.specs.Tables.{Tables}
+use Rattle.brk_model.specs.Records.{Band, Charge, Customer, CustomerTax, TaxRate}
+use Rattle.brk_model.specs.Tables.{SecurityRow, Tables}
 use Rattle.brk_ref.specs.Records.{abstract_band, abstract_charge, abstract_tax_rate}
 use Rattle.brk_ref.specs.declared.band.Band as band
 use Rattle.brk_ref.specs.declared.charge.Charge as charge
 use Rattle.brk_ref.specs.declared.tax.Tax as tax
-use Rattle.brk_trade_rows.specs.Changes.{tables_with_band, tables_with_charge, tables_with_customer_tax, tables_with_tax_rate}
+use Rattle.brk_trade_rows.specs.Changes.{tables_with_band, tables_with_charge, tables_with_customer, tables_with_customer_tax, tables_with_security, tables_with_tax_rate}
 use Rattle.brk_store_index.specs.declared.age.RowAge.{RowAge}
 use Rattle.brk_store_index.specs.declared.terms.Terms.{Terms}
+use Rattle.brk_store_index.specs.declared.by_key.CustomersById.{CustomersById}
+use Rattle.brk_store_index.specs.declared.by_key.SecuritiesBySymbol.{SecuritiesBySymbol}
 use Rattle.brk_store_index.specs.declared.by_number.AgesByNumber.{AgesByNumber}
 use Rattle.brk_store_index.specs.Ages.{AreAgesOf, Has, InsertsAgeIf}
+use Rattle.brk_store_index.specs.ByKey.{AddsCustomer, AddsSecurity, AreCustomersOf, AreSecuritiesOf}
 use Rattle.brk_store_index.specs.Groups.{ages_of_number}
 use Rattle.brk_store_index.specs.Parts.{age_of_id}
 use Rattle.brk_store_index.specs.Terms.{AreCustomerTaxesOf, AreTermsOf, HaveRows, customer_tax_of_age}
 use Rattle.brk_store_index.proofs.Aged.{ages_same, ages_with}
+use Rattle.brk_store_index.proofs.ByKeys.{customer_inserted, security_inserted}
 use Rattle.brk_store_index.proofs.Elements.{behind, front, has_filtered, has_inserted, inserted_has}
 use Rattle.brk_store_index.proofs.Ordered.{RisesBy, all_by_id}
 use Rattle.brk_store_index.proofs.Ranking.{inserted_as}
@@ -62,13 +66,16 @@ ok_on (Err e) p so = tt
 
 -- ---- the terms of tables
 
-pub terms_of_rows : (terms : Terms) (t : Tables) (charges : List Charge) (bands : List Band) (taxes : List TaxRate) (customer_taxes : List CustomerTax) → HaveRows terms charges bands taxes customer_taxes
-    → charges ≡ t.charges → bands ≡ t.bands → taxes ≡ t.tax_rates → customer_taxes ≡ t.customer_taxes → AreTermsOf terms t
-terms_of_rows terms t charges bands taxes customer_taxes have c b x p = record {
+pub terms_of_rows : (terms : Terms) (t : Tables) (charges : List Charge) (bands : List Band) (taxes : List TaxRate) (customer_taxes : List CustomerTax) (customers : List Customer) (securities : List SecurityRow)
+    → HaveRows terms charges bands taxes customer_taxes customers securities → charges ≡ t.charges → bands ≡ t.bands → taxes ≡ t.tax_rates → customer_taxes ≡ t.customer_taxes → customers ≡ t.customers → securities ≡ t.securities
+    → AreTermsOf terms t
+terms_of_rows terms t charges bands taxes customer_taxes customers securities have c b x p k s = record {
   charge_rows = have.charge_rows ∙ c;
   band_rows = have.band_rows ∙ b;
   tax_rows = have.tax_rows ∙ x;
   customer_tax_rows = subst (AreCustomerTaxesOf terms.customer_taxes) p have.customer_tax_rows;
+  customer_rows = subst (AreCustomersOf terms.customers) k have.customer_rows;
+  security_rows = subst (AreSecuritiesOf terms.securities) s have.security_rows;
 }
 
 module _ {E : Type 0} (old : Terms) (r : Result (Unit {0}) E) where
@@ -84,6 +91,8 @@ module _ {E : Type 0} (old : Terms) (r : Result (Unit {0}) E) where
         band_rows = are.band_rows;
         tax_rows = are.tax_rows;
         customer_tax_rows = are.customer_tax_rows;
+        customer_rows = are.customer_rows;
+        security_rows = are.security_rows;
       })
 
   pub band_added_if : (bands : Vec band.Band) (x : band.Band) (b : Band) → abstract_band x ≡ b
@@ -95,6 +104,8 @@ module _ {E : Type 0} (old : Terms) (r : Result (Unit {0}) E) where
         band_rows = inserted_as abstract_band (is_row_key_less band_key) x old.bands.items bands.items t.bands p are.band_rows ∙ ap (λ y. insert_by (is_row_key_less band_key) y t.bands) same;
         tax_rows = are.tax_rows;
         customer_tax_rows = are.customer_tax_rows;
+        customer_rows = are.customer_rows;
+        security_rows = are.security_rows;
       })
 
   pub tax_added_if : (taxes : Vec tax.Tax) (x : tax.Tax) (y : TaxRate) → abstract_tax_rate x ≡ y
@@ -106,6 +117,8 @@ module _ {E : Type 0} (old : Terms) (r : Result (Unit {0}) E) where
         band_rows = are.band_rows;
         tax_rows = inserted_as abstract_tax_rate (is_row_key_less tax_rate_key) x old.taxes.items taxes.items t.tax_rates p are.tax_rows ∙ ap (λ z. insert_by (is_row_key_less tax_rate_key) z t.tax_rates) same;
         customer_tax_rows = are.customer_tax_rows;
+        customer_rows = are.customer_rows;
+        security_rows = are.security_rows;
       })
 
   pub customer_tax_added_if : (groups : AgesByNumber) (x : CustomerTax)
@@ -117,4 +130,28 @@ module _ {E : Type 0} (old : Terms) (r : Result (Unit {0}) E) where
         band_rows = are.band_rows;
         tax_rows = are.tax_rows;
         customer_tax_rows = customer_tax_inserted old.customer_taxes groups x t.customer_taxes inserts are.customer_tax_rows;
+        customer_rows = are.customer_rows;
+        security_rows = are.security_rows;
+      })
+
+  pub customer_added_if : (customers : CustomersById) (x : Customer) → OnOk r (AddsCustomer old.customers x customers) → OnOk r (Becomes (record old { customers = customers }) (tables_with_customer x))
+  customer_added_if customers x put = ok_on r put
+      (λ adds t are. record {
+        charge_rows = are.charge_rows;
+        band_rows = are.band_rows;
+        tax_rows = are.tax_rows;
+        customer_tax_rows = are.customer_tax_rows;
+        customer_rows = customer_inserted (is_row_key_less customer_key) old.customers customers x t.customers adds are.customer_rows;
+        security_rows = are.security_rows;
+      })
+
+  pub security_added_if : (securities : SecuritiesBySymbol) (x : SecurityRow) → OnOk r (AddsSecurity old.securities x securities) → OnOk r (Becomes (record old { securities = securities }) (tables_with_security x))
+  security_added_if securities x put = ok_on r put
+      (λ adds t are. record {
+        charge_rows = are.charge_rows;
+        band_rows = are.band_rows;
+        tax_rows = are.tax_rows;
+        customer_tax_rows = are.customer_tax_rows;
+        customer_rows = are.customer_rows;
+        security_rows = security_inserted (is_row_key_less security_key) old.securities securities x t.securities adds are.security_rows;
       })

@@ -154,6 +154,8 @@ impl RowIndex {
             Change::AddBand(band) => self.terms.add_band(band),
             Change::AddTaxRate(tax) => self.terms.add_tax(tax),
             Change::AddCustomerTax(pays) => self.terms.add_customer_tax(pays),
+            Change::AddCustomer(customer) => self.terms.add_customer(customer),
+            Change::AddSecurity(security) => self.terms.add_security(security),
             _ => Ok(()),
         }
     }

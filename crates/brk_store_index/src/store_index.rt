@@ -4,7 +4,7 @@ ghost use Rattle.std.specs.Prelude.{◌≡◌, ◌==◌, ◌&&◌, IfSome, bytes
 ghost use Rattle.brk_money.specs.Kinds.{is_same_trade_type};
 ghost use Rattle.brk_model.specs.Lists.{total_by};
 ghost use Rattle.brk_model.specs.Tables.{Tables};
-ghost use Rattle.brk_ref.specs.Records.{abstract_band, abstract_charge, abstract_customer_tax, abstract_tax_rate};
+ghost use Rattle.brk_ref.specs.Records.{abstract_band, abstract_charge, abstract_customer, abstract_customer_tax, abstract_security_row, abstract_tax_rate};
 ghost use Rattle.brk_ref.specs.Rows.{abstract_summary_row};
 ghost use Rattle.brk_store_index.specs.IfMade.{AreTaxesByAge, IsIndexIfMade};
 ghost use Rattle.brk_store_index.specs.Prices.{market_value_of_summary};
@@ -13,7 +13,9 @@ ghost use Rattle.brk_store_index.specs.Terms.{AreTermsOf};
 use crate::index::RowIndex;
 use crate::terms::Terms;
 use brk_money::{Id, TradeType, Wide};
-use brk_ref::{Band, Charge, CustomerTax, Exchange, SummaryRow, Tax, Tier};
+use brk_ref::{
+    Band, Charge, Customer, CustomerTax, Exchange, Security, SummaryRow, Symbol, Tax, Tier,
+};
 use std::alloc::Global;
 
 /// The index of a store: of its tables, if it has one.
@@ -105,6 +107,33 @@ impl StoreIndex {
         };
         match terms.taxes_of_customer(alloc, customer) {
             Ok(all) => Some(all),
+            Err(_) => None,
+        }
+    }
+
+    /// Returns the customer with the id.
+    pub fn customer(&self, id: Id) -> Option<Option<Customer>>
+        ensures { IfSome result (λ customer. (t : Tables) → IsIndexIfMade self.now t → option_map abstract_customer customer ≡ find (λ r. r.id == id) t.customers) }
+    {
+        let Some(terms) = self.terms() else {
+            return None;
+        };
+        match terms.customer(id) {
+            Ok(customer) => Some(customer),
+            Err(_) => None,
+        }
+    }
+
+    /// Returns the security with the symbol.
+    pub fn security(&self, symbol: &Symbol) -> Option<Option<Security>>
+        ensures { IfSome result (λ security. (t : Tables) → IsIndexIfMade self.now t
+            → option_map abstract_security_row security ≡ find (λ r. bytes_eq r.symbol symbol.now) t.securities) }
+    {
+        let Some(terms) = self.terms() else {
+            return None;
+        };
+        match terms.security(symbol) {
+            Ok(security) => Some(security),
             Err(_) => None,
         }
     }

@@ -1,30 +1,34 @@
-//! The terms of orders: charges, commission bands and taxes, and the taxes of each customer.
+//! The terms of orders: charges, commission bands and taxes, the taxes of each customer, and customers
+//! and securities by key.
 
 ghost use Rattle.std.specs.Prelude.{◌≡◌, ◌==◌, ◌&&◌, IfOk, OnOk, bytes_eq, filter, find, map, option_map};
 ghost use Rattle.brk_money.specs.Kinds.{is_same_trade_type};
 ghost use Rattle.brk_model.specs.Tables.{Tables};
-ghost use Rattle.brk_ref.specs.Records.{abstract_band, abstract_charge, abstract_customer_tax, abstract_tax_rate};
+ghost use Rattle.brk_ref.specs.Records.{abstract_band, abstract_charge, abstract_customer, abstract_customer_tax, abstract_security_row, abstract_tax_rate};
 ghost use Rattle.brk_store_index.specs.Groups.{ages_of_number};
 ghost use Rattle.brk_store_index.specs.Terms.{AreCustomerTaxesOf, AreTermsOf, HaveRows, customer_tax_of_age};
-ghost use Rattle.brk_trade_rows.specs.Changes.{tables_with_band, tables_with_charge, tables_with_customer_tax, tables_with_tax_rate};
+ghost use Rattle.brk_trade_rows.specs.Changes.{tables_with_band, tables_with_charge, tables_with_customer, tables_with_customer_tax, tables_with_security, tables_with_tax_rate};
 
 use crate::age::RowAge;
+use crate::by_key::{CustomersById, SecuritiesBySymbol};
 use crate::by_number::AgesByNumber;
 use crate::lost::IndexLost;
 use crate::ranked::insert_by_rank;
 use brk_money::{Id, TradeType};
-use brk_ref::{Band, Charge, CustomerTax, Exchange, Tax, Tier};
+use brk_ref::{Band, Charge, Customer, CustomerTax, Exchange, Security, Symbol, Tax, Tier};
 use std::alloc::{AllocError, Global};
 use std::collections::VecDeque;
 
 /// The rows of CHARGE, COMMISSION_RATE and TAXRATE in the order of their keys, and the taxes that
-/// each customer pays.
+/// each customer pays; the customers by id, and the securities by symbol.
 #[derive(Drop)]
 pub struct Terms {
     charges: Vec<Charge>,
     bands: Vec<Band>,
     taxes: Vec<Tax>,
     customer_taxes: AgesByNumber,
+    customers: CustomersById,
+    securities: SecuritiesBySymbol,
 }
 
 // Fails also if a customer has a tax twice.
@@ -123,24 +127,31 @@ fn taxes_of_ages(
 }
 
 impl Terms {
-    /// Creates the terms of all rows of CHARGE, COMMISSION_RATE, TAXRATE and CUSTOMER_TAXRATE, in the
-    /// sequence of the table. Fails also if a customer has a tax twice.
+    /// Creates the terms of all rows of CHARGE, COMMISSION_RATE, TAXRATE, CUSTOMER_TAXRATE, CUSTOMER and
+    /// SECURITY, in the sequence of the table. Fails also if two rows have one key.
     pub fn of_rows(
         alloc: Global,
         charges: Vec<Charge>,
         bands: Vec<Band>,
         taxes: Vec<Tax>,
         customer_taxes: &[CustomerTax],
+        customers: &[Customer],
+        securities: &[Security],
     ) -> Result<Terms, IndexLost>
         ensures { IfOk result (λ terms. HaveRows terms (map abstract_charge charges.items) (map abstract_band bands.items)
-            (map abstract_tax_rate taxes.items) (map abstract_customer_tax customer_taxes.now)) }
+            (map abstract_tax_rate taxes.items) (map abstract_customer_tax customer_taxes.now)
+            (map abstract_customer customers.now) (map abstract_security_row securities.now)) }
     {
         let customer_taxes = customer_taxes_of_rows(alloc, customer_taxes)?;
+        let customers = CustomersById::of_rows(alloc, customers)?;
+        let securities = SecuritiesBySymbol::of_rows(alloc, securities)?;
         Ok(Terms {
             charges,
             bands,
             taxes,
             customer_taxes,
+            customers,
+            securities,
         })
     }
 
@@ -170,6 +181,34 @@ impl Terms {
     {
         self.customer_taxes
             .insert(pays.customer.get(), RowAge::of_id(pays.tax))
+    }
+
+    // Fails also if the id has a customer.
+    pub(crate) fn add_customer(&mut self, customer: &Customer) -> Result<(), IndexLost>
+        ensures { OnOk result ((t : Tables) → AreTermsOf self.old t → AreTermsOf self.new (tables_with_customer (abstract_customer customer.now) t)) }
+    {
+        self.customers.add(customer)
+    }
+
+    // Fails also if the symbol has a security.
+    pub(crate) fn add_security(&mut self, security: &Security) -> Result<(), IndexLost>
+        ensures { OnOk result ((t : Tables) → AreTermsOf self.old t → AreTermsOf self.new (tables_with_security (abstract_security_row security.now) t)) }
+    {
+        self.securities.add(security)
+    }
+
+    /// Returns the customer with the id.
+    pub fn customer(&self, id: Id) -> Result<Option<Customer>, AllocError>
+        ensures { IfOk result (λ customer. (t : Tables) → AreTermsOf self.now t → option_map abstract_customer customer ≡ find (λ r. r.id == id) t.customers) }
+    {
+        self.customers.customer(id)
+    }
+
+    /// Returns the security with the symbol.
+    pub fn security(&self, symbol: &Symbol) -> Result<Option<Security>, AllocError>
+        ensures { IfOk result (λ security. (t : Tables) → AreTermsOf self.now t → option_map abstract_security_row security ≡ find (λ r. bytes_eq r.symbol symbol.now) t.securities) }
+    {
+        self.securities.security(symbol)
     }
 
     /// Returns the charge of a trade type and a customer tier.

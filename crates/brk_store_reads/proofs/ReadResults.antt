@@ -30,16 +30,32 @@ four_reads {S} {V} {W} {X} {Y} {E} {F} {G} {H} {J} g a b c d e v w x y P Q R T o
     let third = read_with g a c d {H = G} (v, w) x ((v, w), x) PQ R PQR (λ t p q. (p, q)) second three in
     read_with g a d e {H = J} ((v, w), x) y (((v, w), x), y) PQR T PQRT (λ t p q. (p, q)) third four
 
--- an answer that follows from what four reads returned
-pub decided_by_four : {S V W X Y Z E F G H N : Type 0} (g : Ghosts S) (a b c d e : Held S) (v : V) (w : W) (x : X) (y : Y) (P : V → Tables → Type 0) (Q : W → Tables → Type 0) (R : X → Tables → Type 0) (T : Y → Tables → Type 0)
-    (M : Z → Tables → Type 0) (result : Result Z N) → ReadPost {E = E} g a b (Ok v) P → ReadPost {E = F} g b c (Ok w) Q → ReadPost {E = G} g c d (Ok x) R → ReadPost {E = H} g d e (Ok y) T
-    → IfOk result (λ z. (t : Tables) → P v t → Q w t → R x t → T y t → M z t) → ReadPost g a e result M
-decided_by_four {S} {V} {W} {X} {Y} {Z} {E} {F} {G} {H} {N} g a b c d e v w x y P Q R T M result one two three four tell =
-    decided g a e (((v, w), x), y) (λ (all : ((V × W) × X) × Y) (t : Tables). ((P all.0.0.0 t × Q all.0.0.1 t) × R all.0.1 t) × T all.1 t) M result
-    (four_reads {J = H} g a b c d e v w x y P Q R T one two three four) (told result tell)
+-- what six reads returned
+six_reads : {S V W X Y U L E F G H J K N : Type 0} (g : Ghosts S) (a b c d e f h : Held S) (v : V) (w : W) (x : X) (y : Y) (u : U) (l : L) (P : V → Tables → Type 0) (Q : W → Tables → Type 0) (R : X → Tables → Type 0)
+    (T : Y → Tables → Type 0) (C : U → Tables → Type 0) (D : L → Tables → Type 0) → ReadPost {E = E} g a b (Ok v) P → ReadPost {E = F} g b c (Ok w) Q → ReadPost {E = G} g c d (Ok x) R → ReadPost {E = H} g d e (Ok y) T
+    → ReadPost {E = J} g e f (Ok u) C → ReadPost {E = K} g f h (Ok l) D
+    → ReadPost {E = N} g a h (Ok (((((v, w), x), y), u), l)) (λ (all : ((((V × W) × X) × Y) × U) × L) (t : Tables). ((((P all.0.0.0.0.0 t × Q all.0.0.0.0.1 t) × R all.0.0.0.1 t) × T all.0.0.1 t) × C all.0.1 t) × D all.1 t)
+six_reads {S} {V} {W} {X} {Y} {U} {L} {E} {F} {G} {H} {J} {K} {N} g a b c d e f h v w x y u l P Q R T C D one two three four five six =
+    let PQRT = λ (vwxy : ((V × W) × X) × Y) (t : Tables). ((P vwxy.0.0.0 t × Q vwxy.0.0.1 t) × R vwxy.0.1 t) × T vwxy.1 t in
+    let PQRTC = λ (vwxyu : (((V × W) × X) × Y) × U) (t : Tables). PQRT vwxyu.0 t × C vwxyu.1 t in
+    let PQRTCD = λ (all : ((((V × W) × X) × Y) × U) × L) (t : Tables). PQRTC all.0 t × D all.1 t in
+    let fourth = four_reads {J = H} g a b c d e v w x y P Q R T one two three four in
+    let fifth = read_with g a e f {H = J} (((v, w), x), y) u ((((v, w), x), y), u) PQRT C PQRTC (λ t p q. (p, q)) fourth five in
+    read_with g a f h {H = N} ((((v, w), x), y), u) l (((((v, w), x), y), u), l) PQRTC D PQRTCD (λ t p q. (p, q)) fifth six
+
+-- an answer that follows from what six reads returned
+pub decided_by_six : {S V W X Y U L Z E F G H J K N : Type 0} (g : Ghosts S) (a b c d e f h : Held S) (v : V) (w : W) (x : X) (y : Y) (u : U) (l : L) (P : V → Tables → Type 0) (Q : W → Tables → Type 0) (R : X → Tables → Type 0)
+    (T : Y → Tables → Type 0) (C : U → Tables → Type 0) (D : L → Tables → Type 0) (M : Z → Tables → Type 0) (result : Result Z N) → ReadPost {E = E} g a b (Ok v) P → ReadPost {E = F} g b c (Ok w) Q
+    → ReadPost {E = G} g c d (Ok x) R → ReadPost {E = H} g d e (Ok y) T → ReadPost {E = J} g e f (Ok u) C → ReadPost {E = K} g f h (Ok l) D
+    → IfOk result (λ z. (t : Tables) → P v t → Q w t → R x t → T y t → C u t → D l t → M z t) → ReadPost g a h result M
+decided_by_six {S} {V} {W} {X} {Y} {U} {L} {Z} {E} {F} {G} {H} {J} {K} {N} g a b c d e f h v w x y u l P Q R T C D M result one two three four five six tell =
+    decided g a h (((((v, w), x), y), u), l)
+    (λ (all : ((((V × W) × X) × Y) × U) × L) (t : Tables). ((((P all.0.0.0.0.0 t × Q all.0.0.0.0.1 t) × R all.0.0.0.1 t) × T all.0.0.1 t) × C all.0.1 t) × D all.1 t) M result
+    (six_reads {N = K} g a b c d e f h v w x y u l P Q R T C D one two three four five six) (told result tell)
   where
-    told : (r : Result Z N) → IfOk r (λ z. (t : Tables) → P v t → Q w t → R x t → T y t → M z t) → IfOk r (λ z. (t : Tables) → ((P v t × Q w t) × R x t) × T y t → M z t)
-    told (Ok z) h = λ t all. h t all.0.0.0 all.0.0.1 all.0.1 all.1
+    told : (r : Result Z N) → IfOk r (λ z. (t : Tables) → P v t → Q w t → R x t → T y t → C u t → D l t → M z t)
+        → IfOk r (λ z. (t : Tables) → ((((P v t × Q w t) × R x t) × T y t) × C u t) × D l t → M z t)
+    told (Ok z) h = λ t all. h t all.0.0.0.0.0 all.0.0.0.0.1 all.0.0.0.1 all.0.0.1 all.0.1 all.1
     told (Err i) h = tt
 
 -- an answer that follows from what seven reads returned
@@ -48,13 +64,9 @@ pub decided_by_seven : {S V W X Y U L O Z E F G H J K I N : Type 0} (g : Ghosts 
     → ReadPost {E = F} g b c (Ok w) Q → ReadPost {E = G} g c d (Ok x) R → ReadPost {E = H} g d e (Ok y) T → ReadPost {E = J} g e f (Ok u) C → ReadPost {E = K} g f h (Ok l) D → ReadPost {E = I} g h i (Ok o) B
     → IfOk result (λ z. (t : Tables) → P v t → Q w t → R x t → T y t → C u t → D l t → B o t → M z t) → ReadPost g a i result M
 decided_by_seven {S} {V} {W} {X} {Y} {U} {L} {O} {Z} {E} {F} {G} {H} {J} {K} {I} {N} g a b c d e f h i v w x y u l o P Q R T C D B M result one two three four five six seven tell =
-    let PQRT = λ (vwxy : ((V × W) × X) × Y) (t : Tables). ((P vwxy.0.0.0 t × Q vwxy.0.0.1 t) × R vwxy.0.1 t) × T vwxy.1 t in
-    let PQRTC = λ (vwxyu : (((V × W) × X) × Y) × U) (t : Tables). PQRT vwxyu.0 t × C vwxyu.1 t in
-    let PQRTCD = λ (vwxyul : ((((V × W) × X) × Y) × U) × L) (t : Tables). PQRTC vwxyul.0 t × D vwxyul.1 t in
+    let PQRTCD = λ (all : ((((V × W) × X) × Y) × U) × L) (t : Tables). ((((P all.0.0.0.0.0 t × Q all.0.0.0.0.1 t) × R all.0.0.0.1 t) × T all.0.0.1 t) × C all.0.1 t) × D all.1 t in
     let All = λ (all : (((((V × W) × X) × Y) × U) × L) × O) (t : Tables). PQRTCD all.0 t × B all.1 t in
-    let fourth = four_reads {J = H} g a b c d e v w x y P Q R T one two three four in
-    let fifth = read_with g a e f {H = J} (((v, w), x), y) u ((((v, w), x), y), u) PQRT C PQRTC (λ t p q. (p, q)) fourth five in
-    let sixth = read_with g a f h {H = K} ((((v, w), x), y), u) l (((((v, w), x), y), u), l) PQRTC D PQRTCD (λ t p q. (p, q)) fifth six in
+    let sixth = six_reads {N = K} g a b c d e f h v w x y u l P Q R T C D one two three four five six in
     let seventh = read_with g a h i {H = I} (((((v, w), x), y), u), l) o ((((((v, w), x), y), u), l), o) PQRTCD B All (λ t p q. (p, q)) sixth seven in
     decided g a i ((((((v, w), x), y), u), l), o) All M result seventh (told result tell)
   where
