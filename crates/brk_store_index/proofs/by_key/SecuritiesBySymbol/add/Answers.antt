@@ -10,8 +10,9 @@ pub returns : goal.returns
 returns c =
     let old = c.args.self.now.securities in
     let security = abstract_security_row c.args.security.now in
-    let key : string_bytes c.in_ok-symbol.symbol ≡ security.symbol = search rules in
-    let none : get_by_text old security.symbol ≡ None = search rules in
+    let symbol = c.args.security.now.symbol in
+    let key : string_bytes c.in_ok-symbol.symbol ≡ symbol = search rules in
+    let none : get_by_text c.args.self.now.securities symbol ≡ None = search rules in
     record {
       fresh = not_mapped abstract_security_row (get_by_text old security.symbol) none;
       securities = λ symbol.
