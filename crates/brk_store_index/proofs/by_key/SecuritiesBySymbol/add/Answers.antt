@@ -12,7 +12,7 @@ returns c =
     let security = abstract_security_row c.args.security.now in
     let symbol = c.args.security.now.symbol in
     let key : string_bytes c.in_ok-symbol.symbol ≡ symbol = search rules in
-    let none : get_by_text c.args.self.now.securities symbol ≡ None = search rules in
+    let none : get_by_text c.args.self.now.securities symbol ≡ None = search (rules, c.contains_key.ensures, c.if-contains_key.false, c.as_str.ensures) in
     record {
       fresh = not_mapped abstract_security_row (get_by_text old security.symbol) none;
       securities = λ symbol.
