@@ -14,6 +14,6 @@ def cpu():
     except OSError: return None
 last=0
 for line in sys.stdin:
-    if 'modules loaded' in line or line.startswith('fn ') : continue
+    if line.startswith('fn '): continue
     c=cpu(); c=last if c is None else c
     print(f'{c:7.1f} {c-last:6.1f} {line.rstrip()}',flush=True); last=c
