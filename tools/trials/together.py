@@ -6,7 +6,8 @@ has up to MOST mutants, and a mutant is rejected if the prover reports an error 
 for which it reports none is tried alone, as `rt must-fail` does it. One for which it reports only that a name is missing is not rejected: that
 says nothing of a contract.
 
-It calls functions of the kit's rt (tried on kit 13f) over the libraries in the folders out/ of the tree, which `./brk` or `rt check` built."""
+It calls functions of the kit's rt (tried on kits 13b and 13f) over the libraries in the folders out/ of the tree, which `./brk` or `rt check` built."""
+import inspect
 import os
 import re
 import shutil
@@ -35,6 +36,14 @@ def kit():
     rt.Crate.cuts_libraries = True
     rt.rtlib.guarded()
     return rt
+
+
+def crates_of(rt, top):
+    """The crates of a tree. The function of kit 13b for that takes what was proved out of their folders."""
+    if len(inspect.signature(rt.crates_of).parameters) == 1:
+        return rt.crates_of(top)
+    rt.rtlib.Crate = rt.Crate
+    return rt.rtlib.crates_below(top)
 
 
 def function_at(text, place):
@@ -107,7 +116,7 @@ class Trial:
 
     def __init__(self, rt, top, name):
         self.rt = rt
-        self.crate = next(it for it in rt.crates_of(top) if it.name == name)
+        self.crate = next(it for it in crates_of(rt, top) if it.name == name)
         self.room = tempfile.mkdtemp(prefix='together-')
         os.mkdir(f'{self.room}/base')
 
@@ -130,7 +139,8 @@ class Trial:
     def over_base(self, call):
         """Calls a function with a copy of what was proved."""
         over = f'{self.room}/over'
-        self.rt.linked(f'{self.room}/base', over)
+        # a check replaces such a file, and changes none
+        shutil.copytree(f'{self.room}/base', over, copy_function=os.link)
         try:
             return call(over)
         finally:
@@ -139,7 +149,8 @@ class Trial:
     def alone(self, mutant):
         """Tries a mutant alone. Returns whether it was rejected, and what the kit says of it."""
         kind, text = self.over_base(lambda over: self.rt.must_fail(self.crate, mutant.path, FLAGS, over))
-        return kind in (self.rt.REFUSED, self.rt.AT_LIMIT), text
+        # kit 13b says no more than whether it was rejected
+        return kind if isinstance(kind, bool) else kind in (self.rt.REFUSED, self.rt.AT_LIMIT), text
 
     def results(self, mutants):
         """Tries mutants several at a time. Yields each with whether it was rejected, and the error in its function."""

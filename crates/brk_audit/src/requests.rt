@@ -96,6 +96,7 @@ fn requests_match_trades(
     rest.is_empty()
 }
 
+/// Returns true if TRADE_REQUEST has a row for each pending trade, with its terms, and no other.
 pub(crate) fn meets_requests(alloc: Global, sheets: &Sheets) -> Result<bool, AllocError>
     requires form { HasWellFormedRows sheets.now }
     requires status { HasValidStatuses sheets.now }

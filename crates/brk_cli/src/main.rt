@@ -3,7 +3,7 @@
 
 use brk_cli_args::{Job, UsageFault, non_utf8_fault, read_words};
 use brk_cli_exit::{Ending, end_with};
-use brk_cli_jobs::{MachineFiles, PipeWriter, execute_requested_job};
+use brk_cli_jobs::{PipeWriter, execute_requested_job_on_machine};
 use std::alloc::AllocError;
 use std::env;
 use std::io::ErrorKind;
@@ -29,13 +29,7 @@ fn requested_job(rt: &HostRuntime) -> Result<Job, UsageFault> {
 
 fn execute_command_line(rt: &HostRuntime) -> Ending {
     let mut output = PipeWriter::new(rt.stdout());
-    execute_requested_job(
-        rt,
-        &MachineFiles::new(rt),
-        requested_job(rt),
-        rt.reader(),
-        &mut output,
-    )
+    execute_requested_job_on_machine(rt, requested_job(rt), rt.reader(), &mut output)
 }
 
 // A failure to write the error line does not change the exit status.

@@ -22,91 +22,130 @@ use std::alloc::{AllocError, Global};
 // that proves it, which is the text after `rattle-kit-` in the output of `rt version`.
 const VERSION: &str = "0.2.0 (schema 3, kit 13f)";
 
+// An option `--NAME VALUE` that may be left out; its value is any text.
+fn option<'a>(
+    alloc: Global,
+    name: &'static str,
+    value: &'static str,
+    help: &'static str,
+) -> Arg<'a> {
+    Arg::new(alloc, name)
+        .long(name)
+        .value_name(value)
+        .help(help)
+}
+
 // A desk is created if the file is missing or empty or has no table of a desk.
 fn optional_file_arg<'a>(alloc: Global) -> Arg<'a> {
-    Arg::new(alloc, "db").long("db").value_name("FILE").help(
+    option(
+        alloc,
+        "db",
+        "FILE",
         "The file of the desk, created if it is missing or empty (check the path); without it the desk is in memory",
     )
 }
 
 // The parser does not check that the file exists.
 fn required_file_arg<'a>(alloc: Global) -> Arg<'a> {
-    Arg::new(alloc, "db")
-        .long("db")
-        .value_name("FILE")
-        .help("The file of the desk")
-        .required(true)
+    option(alloc, "db", "FILE", "The file of the desk").required(true)
 }
 
 fn timestamp_arg<'a>(alloc: Global) -> Arg<'a> {
-    Arg::new(alloc, "at")
-        .long("at")
-        .value_name("MS")
-        .value_parser(value_parser!(i64).range(0..=Stamp::GREATEST))
-        .help(
-            "The clock reading, in milliseconds since 1970-01-01 UTC, never one in the future; without it the clock is read",
-        )
+    option(
+        alloc,
+        "at",
+        "MS",
+        "The clock reading, in milliseconds since 1970-01-01 UTC, never one in the future; without it the clock is read",
+    )
+    .value_parser(value_parser!(i64).range(0..=Stamp::GREATEST))
 }
 
 // The parser accepts any text; `parse_day_arg` checks it after the parsing.
 fn day_arg<'a>(alloc: Global, name: &'static str, help: &'static str) -> Arg<'a> {
-    Arg::new(alloc, name)
-        .long(name)
-        .value_name("DAY")
-        .help(help)
-        .required(true)
+    option(alloc, name, "DAY", help).required(true)
+}
+
+fn subcommand<'a>(
+    alloc: Global,
+    name: &'static str,
+    about: &'static str,
+    notes: &'static str,
+    args: Vec<Arg<'a>>,
+) -> Result<Command<'a>, AllocError> {
+    Command::new(alloc, name)
+        .about(about)
+        .after_help(notes)
+        .args(args)
 }
 
 fn batch_command<'a>(alloc: Global) -> Result<Command<'a>, AllocError> {
-    Command::new(alloc, "batch")
-        .about("Reads a batch from standard input and writes a line for each row")
-        .after_help(notes::BATCH)
-        .arg(optional_file_arg(alloc))?
-        .arg(timestamp_arg(alloc))
+    let args = vec![in alloc; optional_file_arg(alloc), timestamp_arg(alloc)]?;
+    subcommand(
+        alloc,
+        "batch",
+        "Reads a batch from standard input and writes a line for each row",
+        notes::BATCH,
+        args,
+    )
 }
 
 fn account_arg<'a>(alloc: Global) -> Arg<'a> {
-    Arg::new(alloc, "account")
-        .long("account")
-        .value_name("ID")
+    option(alloc, "account", "ID", "The account")
         .value_parser(value_parser!(u64).range(1..=Id::GREATEST as i64))
-        .help("The account")
         .required(true)
 }
 
 fn statement_command<'a>(alloc: Global) -> Result<Command<'a>, AllocError> {
-    Command::new(alloc, "statement")
-        .about("Prints the statement of an account: its cash, day by day, and its lots")
-        .after_help(notes::STATEMENT)
-        .arg(required_file_arg(alloc))?
-        .arg(account_arg(alloc))?
-        .arg(day_arg(alloc, "from", "The first day, as 2024-03-01"))?
-        .arg(day_arg(alloc, "to", "The last day"))
+    let args = vec![in alloc;
+        required_file_arg(alloc),
+        account_arg(alloc),
+        day_arg(alloc, "from", "The first day, as 2024-03-01"),
+        day_arg(alloc, "to", "The last day"),
+    ]?;
+    subcommand(
+        alloc,
+        "statement",
+        "Prints the statement of an account: its cash, day by day, and its lots",
+        notes::STATEMENT,
+        args,
+    )
 }
 
 fn customer_arg<'a>(alloc: Global) -> Arg<'a> {
-    Arg::new(alloc, "customer")
-        .long("customer")
-        .value_name("ID")
-        .value_parser(value_parser!(u64).range(1..=Id::GREATEST as i64))
-        .help("The customer; without it the accounts of all customers")
+    option(
+        alloc,
+        "customer",
+        "ID",
+        "The customer; without it the accounts of all customers",
+    )
+    .value_parser(value_parser!(u64).range(1..=Id::GREATEST as i64))
 }
 
 fn statements_command<'a>(alloc: Global) -> Result<Command<'a>, AllocError> {
-    Command::new(alloc, "statements")
-        .about("Prints the statements of all accounts, or of a customer's, one after the other")
-        .after_help(notes::STATEMENTS)
-        .arg(required_file_arg(alloc))?
-        .arg(day_arg(alloc, "from", "The first day, as 2024-03-01"))?
-        .arg(day_arg(alloc, "to", "The last day"))?
-        .arg(customer_arg(alloc))
+    let args = vec![in alloc;
+        required_file_arg(alloc),
+        day_arg(alloc, "from", "The first day, as 2024-03-01"),
+        day_arg(alloc, "to", "The last day"),
+        customer_arg(alloc),
+    ]?;
+    subcommand(
+        alloc,
+        "statements",
+        "Prints the statements of all accounts, or of a customer's, one after the other",
+        notes::STATEMENTS,
+        args,
+    )
 }
 
 fn audit_command<'a>(alloc: Global) -> Result<Command<'a>, AllocError> {
-    Command::new(alloc, "audit")
-        .about("Recomputes every derived table of a desk, and prints ok if all are right")
-        .after_help(notes::AUDIT)
-        .arg(required_file_arg(alloc))
+    let args = vec![in alloc; required_file_arg(alloc)]?;
+    subcommand(
+        alloc,
+        "audit",
+        "Recomputes every derived table of a desk, and prints ok if all are right",
+        notes::AUDIT,
+        args,
+    )
 }
 
 fn flag_arg<'a>(alloc: Global, name: &'static str, help: &'static str) -> Arg<'a> {
@@ -123,77 +162,88 @@ fn view_name_arg<'a>(alloc: Global) -> Arg<'a> {
         .required(true)
 }
 
-fn view_args<'a>(alloc: Global) -> Arg<'a> {
-    Arg::new(alloc, "arguments")
-        .value_name("ARGUMENT")
+// Any number of words, without a name before them.
+fn word_list_arg<'a>(
+    alloc: Global,
+    name: &'static str,
+    value: &'static str,
+    help: &'static str,
+) -> Arg<'a> {
+    Arg::new(alloc, name)
+        .value_name(value)
         .num_args(0..)
-        .help("The arguments of the view")
+        .help(help)
 }
 
 fn ask_command<'a>(alloc: Global) -> Result<Command<'a>, AllocError> {
-    Command::new(alloc, "ask")
-        .about("Prints a view of a desk: a CSV row for each record")
-        .after_help(notes::ASK)
-        .arg(required_file_arg(alloc))?
-        .arg(flag_arg(alloc, "json", "Prints the view as JSON, as over HTTP"))?
-        .arg(flag_arg(
+    let args = vec![in alloc;
+        required_file_arg(alloc),
+        flag_arg(alloc, "json", "Prints the view as JSON, as over HTTP"),
+        flag_arg(
             alloc,
             "heads",
             "Prints the names of the fields first, where all records have the same",
-        ))?
-        .arg(view_name_arg(alloc))?
-        .arg(view_args(alloc))
+        ),
+        view_name_arg(alloc),
+        word_list_arg(alloc, "arguments", "ARGUMENT", "The arguments of the view",),
+    ]?;
+    subcommand(
+        alloc,
+        "ask",
+        "Prints a view of a desk: a CSV row for each record",
+        notes::ASK,
+        args,
+    )
 }
 
 fn explain_command<'a>(alloc: Global) -> Result<Command<'a>, AllocError> {
-    let words = Arg::new(alloc, "words")
-        .value_name("WORD")
-        .num_args(0..)
-        .help(
-            "What is explained: trade ID, account ID, holding ACCOUNT SYMBOL, or broker ID; write -- before a symbol that begins with a hyphen",
-        );
-    Command::new(alloc, "explain")
-        .about("Prints how the amounts of a trade, an account, a holding or a broker come about")
-        .after_help(notes::EXPLAIN)
-        .arg(required_file_arg(alloc))?
-        .arg(words)
+    let words = word_list_arg(
+        alloc,
+        "words",
+        "WORD",
+        "What is explained: trade ID, account ID, holding ACCOUNT SYMBOL, or broker ID; write -- before a symbol that begins with a hyphen",
+    );
+    let args = vec![in alloc; required_file_arg(alloc), words]?;
+    subcommand(
+        alloc,
+        "explain",
+        "Prints how the amounts of a trade, an account, a holding or a broker come about",
+        notes::EXPLAIN,
+        args,
+    )
 }
 
 fn port_arg<'a>(alloc: Global) -> Arg<'a> {
-    Arg::new(alloc, "port")
-        .long("port")
-        .value_name("P")
+    option(alloc, "port", "P", "The port of 127.0.0.1")
         .value_parser(value_parser!(u16).range(1..=65_535))
-        .help("The port of 127.0.0.1")
         .required(true)
 }
 
 fn streams_arg<'a>(alloc: Global) -> Arg<'a> {
-    Arg::new(alloc, "streams")
-        .long("streams")
-        .value_name("N")
-        .value_parser(value_parser!(u32).range(1..=1_000_000))
-        .default_value("1")
-        .help("The number of streams that are served before the program ends")
+    option(
+        alloc,
+        "streams",
+        "N",
+        "The number of streams that are served before the program ends",
+    )
+    .value_parser(value_parser!(u32).range(1..=1_000_000))
+    .default_value("1")
 }
 
 fn serve_command<'a>(alloc: Global) -> Result<Command<'a>, AllocError> {
-    Command::new(alloc, "serve")
-        .about("Serves the desk over HTTP, one stream after the other")
-        .after_help(notes::SERVE)
-        .arg(port_arg(alloc))?
-        .arg(optional_file_arg(alloc))?
-        .arg(timestamp_arg(alloc))?
-        .arg(streams_arg(alloc))
-}
-
-// A separate function because the prover needs more than a minute for a function that has several
-// commands.
-fn add_subcommand<'a>(
-    command: Result<Command<'a>, AllocError>,
-    added: Result<Command<'a>, AllocError>,
-) -> Result<Command<'a>, AllocError> {
-    command?.subcommand(added?)
+    let args = vec![in alloc;
+        port_arg(alloc),
+        optional_file_arg(alloc),
+        timestamp_arg(alloc),
+        streams_arg(alloc),
+    ]?;
+    subcommand(
+        alloc,
+        "serve",
+        "Serves the desk over HTTP, one stream after the other",
+        notes::SERVE,
+        args,
+    )
 }
 
 // `brk` without its subcommands. Without arguments, parsing fails with the help of `brk` as the
@@ -207,15 +257,23 @@ fn program_command<'a>(alloc: Global) -> Result<Command<'a>, AllocError> {
         .bin_name("brk")
 }
 
-// `brk` with its seven subcommands.
+fn subcommands<'a>(alloc: Global) -> Result<Vec<Command<'a>>, AllocError> {
+    let built = vec![in alloc;
+        batch_command(alloc),
+        statement_command(alloc),
+        statements_command(alloc),
+        ask_command(alloc),
+        explain_command(alloc),
+        audit_command(alloc),
+        serve_command(alloc),
+    ]?;
+    built.into_iter().try_collect(alloc)
+}
+
+// `brk` with its subcommands.
 fn whole_command<'a>(alloc: Global) -> Result<Command<'a>, AllocError> {
-    let command = add_subcommand(program_command(alloc), batch_command(alloc));
-    let command = add_subcommand(command, statement_command(alloc));
-    let command = add_subcommand(command, statements_command(alloc));
-    let command = add_subcommand(command, ask_command(alloc));
-    let command = add_subcommand(command, explain_command(alloc));
-    let command = add_subcommand(command, audit_command(alloc));
-    add_subcommand(command, serve_command(alloc))
+    let subcommands = subcommands(alloc)?;
+    program_command(alloc)?.subcommands(subcommands)
 }
 
 // Returns a copy of the argument's text, empty if the argument is missing.
@@ -379,6 +437,14 @@ fn subcommand_job(alloc: Global, name: &str, matches: &ArgMatches<'_>) -> Result
     })
 }
 
+// The parser requires a subcommand; without it the fault has an empty text.
+fn job_of_matches(alloc: Global, matches: &ArgMatches<'_>) -> Result<Job, UsageFault> {
+    match matches.subcommand() {
+        Some((name, given)) => subcommand_job(alloc, name, given),
+        None => Err(UsageFault::Words(String::new(alloc))),
+    }
+}
+
 // Returns `Memory` also if memory runs out for the text of the error.
 fn usage_fault_of(alloc: Global, error: &Error) -> UsageFault {
     let kind = error.kind();
@@ -410,12 +476,8 @@ pub fn non_utf8_fault(alloc: Global) -> UsageFault {
 pub fn read_words(words: Vec<String>) -> Result<Job, UsageFault> {
     let alloc = *words.allocator();
     let command = whole_command(alloc)?;
-    let matched = command.try_get_matches_from(words.as_slice());
-    match matched {
-        Ok(matches) => match matches.subcommand() {
-            Some((name, given)) => subcommand_job(alloc, name, given),
-            None => Err(UsageFault::Words(String::new(alloc))),
-        },
+    match command.try_get_matches_from(words.as_slice()) {
+        Ok(matches) => job_of_matches(alloc, &matches),
         Err(error) => Err(usage_fault_of(alloc, &error)),
     }
 }

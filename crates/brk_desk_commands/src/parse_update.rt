@@ -14,6 +14,7 @@ use brk_money::{Planned, Refusal};
 use brk_ref_orders::{parse_cash_name_update, parse_cash_type_update, parse_executor_update};
 use std::alloc::{AllocError, Global};
 
+// The fields are the ids of the trades whose executors are renamed.
 fn executor_command(alloc: Global, fields: &[&[u8]]) -> Planned<Command, AllocError>
     ensures { IfOk result (λ read. ParsesAs abstract_command read (read_and_wrap ChangeExecutors read_distinct_ids (texts_of_fields fields.now))) }
 {

@@ -39,6 +39,7 @@ fn append_price(row: &mut String, order_type: OrderType) -> Result<(), AllocErro
     }
 }
 
+// The fields of the order after its price.
 fn append_order_after_price(row: &mut String, order: &Order) -> Result<(), AllocError>
     ensures { OnOk result (string_bytes row.new ≡ string_bytes row.old ++ fields_after_separators 31 (drop 5 (model.order_fields (abstract_order order.now)))) }
 {

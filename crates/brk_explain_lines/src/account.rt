@@ -1,4 +1,5 @@
-//! The lines of the explanation of an account. After an error a part of them may be appended.
+//! The lines of the explanation of an account. After an error a part of them may be appended; a sum
+//! that overflows is the fault `Store`.
 
 ghost use Rattle.std.specs.Prelude.{◌≡◌, ◌++◌, ◌∷◌, IfOk, OnOk, codes, map};
 ghost use Rattle.brk_ref.specs.Rows.{abstract_holding_row, abstract_cash_row};

@@ -1,5 +1,5 @@
 //! The lines of the price of a completed trade, of the lots that it closed and opened, and of its
-//! gain. After an error a part of them may be appended.
+//! gain. After an error a part of them may be appended; a sum that overflows is the fault `Store`.
 
 ghost use Rattle.std.specs.Prelude.{◌≡◌, ◌++◌, OnOk, map, nat_abs, option_map};
 ghost use Rattle.brk_ref.specs.Rows.{abstract_lot_change_row, abstract_trade_row};

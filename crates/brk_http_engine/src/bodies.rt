@@ -82,17 +82,24 @@ fn json_records(alloc: Global, records: &[Vec<String>]) -> Result<Value, AllocEr
     Ok(Value::Array(list))
 }
 
+fn member_name(word: MemberName) -> &'static str
+    ensures { result.now ≡ member_name_text word }
+{
+    match word {
+        MemberName::Ok => "ok",
+        MemberName::Again => "again",
+        MemberName::No => "no",
+        MemberName::View => "view",
+        MemberName::Error => "error",
+    }
+}
+
 // Returns the JSON object that has `value` as its one member.
 fn json_member(alloc: Global, word: MemberName, value: Value) -> Result<Value, AllocError>
     ensures { IfOk result (λ v. view v ≡ object (member (member_name_text word) (view value) no_members)) }
 {
-    match word {
-        MemberName::Ok => json!(in alloc; {"ok": value}),
-        MemberName::Again => json!(in alloc; {"again": value}),
-        MemberName::No => json!(in alloc; {"no": value}),
-        MemberName::View => json!(in alloc; {"view": value}),
-        MemberName::Error => json!(in alloc; {"error": value}),
-    }
+    let name = member_name(word);
+    json!(in alloc; {name: value})
 }
 
 /// Returns the JSON text `{"NAME":["TEXT",..]}`.

@@ -1,6 +1,6 @@
 //! The reply to a response: its status, its head and its body.
 
-ghost use Rattle.std.specs.Prelude.{◌≡◌, ◌++◌, [], IfOk, OnOk, decimal, string_bytes, unwrap_or};
+ghost use Rattle.std.specs.Prelude.{◌≡◌, ◌++◌, [], IfOk, OnOk, string_bytes, unwrap_or};
 ghost use Rattle.http.specs.StatusCode.{reason_phrase};
 ghost use Rattle.brk_model_http.specs.Replies.{FromOutcome, is_method_not_allowed, response_body, fault_word, http_head_line, is_fault_response};
 ghost use Rattle.brk_model_http.specs.Replies.{http_status_of_problem, text_of_problem, reply_text, reply_bytes, http_status_of_response, head_line_if};
@@ -147,43 +147,18 @@ fn status_phrase(code: StatusCode) -> &'static str
     }
 }
 
-fn full_status(alloc: Global, code: StatusCode) -> Result<String, AllocError>
-    ensures { IfOk result (λ s. string_bytes s ≡ status_text code) }
-{
-    let mut line = String::from_str(alloc, code.as_str())?;
-    line.push_str(" ")?;
-    line.push_str(status_phrase(code))?;
-    Ok(line)
-}
-
-fn text_with_label(alloc: Global, label: &str, value: &str) -> Result<String, AllocError>
-    ensures { IfOk result (λ s. string_bytes s ≡ label.now ++ value.now) }
-{
-    let mut text = String::from_str(alloc, label)?;
-    text.push_str(value)?;
-    Ok(text)
-}
-
-fn decimal_digits(alloc: Global, n: usize) -> Result<String, AllocError>
-    ensures { IfOk result (λ s. string_bytes s ≡ decimal n) }
-{
-    format!(in alloc; "{n}")
-}
-
 // The status line, the content type and the content length, in bytes.
-fn first_head_lines(alloc: Global, status: &str, len: usize) -> Result<String, AllocError>
-    ensures { IfOk result (λ s. string_bytes s ≡ first_head_lines status.now len) }
+fn first_head_lines(alloc: Global, code: StatusCode, len: usize) -> Result<String, AllocError>
+    ensures { IfOk result (λ s. string_bytes s ≡ first_head_lines (status_text code) len) }
 {
-    let first = text_with_label(alloc, "HTTP/1.1 ", status)?;
-    let digits = decimal_digits(alloc, len)?;
-    let third = text_with_label(alloc, "Content-Length: ", digits.as_str())?;
-    let mut head = String::new(alloc);
-    append_line(&mut head, first.as_str())?;
-    append_line(&mut head, "Content-Type: application/json")?;
-    append_line(&mut head, third.as_str())?;
-    Ok(head)
+    format!(in alloc;
+        "HTTP/1.1 {} {}\r\nContent-Type: application/json\r\nContent-Length: {len}\r\n",
+        code.as_str(),
+        status_phrase(code),
+    )
 }
 
+#[tactic(auto, unfolding(crate::specs::Lines::first_head_lines, brk_model_http::specs::Replies::reply_bytes))]
 fn assemble_reply(
     alloc: Global,
     code: StatusCode,
@@ -193,12 +168,10 @@ fn assemble_reply(
 ) -> Result<String, AllocError>
     ensures { IfOk result (λ s. string_bytes s ≡ reply_bytes (status_text code) asks_post closes body.now) }
 {
-    let status = full_status(alloc, code)?;
-    let mut text = first_head_lines(alloc, status.as_str(), body.len())?;
+    let mut text = first_head_lines(alloc, code, body.len())?;
     append_optional_line(&mut text, asks_post, "Allow: POST")?;
     append_optional_line(&mut text, closes, "Connection: close")?;
-    append_line(&mut text, "")?;
-    text.push_str(body)?;
+    write!(text, "\r\n{body}")?;
     Ok(text)
 }
 

@@ -1,17 +1,19 @@
 //! The execution of one row of a batch on the desk, under its key, and its answer.
 
-ghost use Rattle.std.specs.Prelude.{◌≡◌, ◌≤◌, IfErr, IfOk, OnErr};
+ghost use Rattle.std.specs.Prelude.{◌≡◌, ◌≤◌, Err, IfErr, IfOk, OnErr};
 ghost use Rattle.csv.specs.Records.{fields_of};
+ghost use Rattle.brk_money.specs.declared.fault.Fault.TheVariants.{Memory};
 ghost use Rattle.brk_model.specs.Input.{most_input_bytes};
 ghost use Rattle.brk_model.specs.Run.{IsCallFault};
 ghost use Rattle.brk_ref.specs.Answers.{abstract_answer};
+ghost use Rattle.brk_ref.specs.Fields.{ParsesAs};
 ghost use Rattle.brk_ref.specs.Records.{abstract_key};
 ghost use Rattle.brk_import_engine.specs.Answers.{RowHasAnswer, RowFailsWith, PreservesRepresentedBases, RepresentsDurably};
 
 use crate::records::record_fields;
 use crate::rows::Rows;
 use brk_io::Clock;
-use brk_money::Fault;
+use brk_money::{Fault, Planned};
 use brk_ref::{Answer, BatchName, Key, RowNumber};
 use csv::ByteRecord;
 use std::alloc::{AllocError, Global};
@@ -24,6 +26,16 @@ fn row_key(batch: &BatchName, n: u64) -> Result<Key, AllocError>
     let batch = batch.clone()?;
     let row = RowNumber::new(n).unwrap();
     Ok(Key { batch, n: row })
+}
+
+fn parsed_row<D: Rows>(alloc: Global, row: &ByteRecord) -> Planned<D::Command>
+    ensures read { IfOk result (λ read. ParsesAs D.asked read (D.form (fields_of row.now))) }
+    ensures fault { OnErr result (result ≡ Err Memory) }
+{
+    let Ok(fields) = record_fields(alloc, row) else {
+        return Err(Fault::Memory);
+    };
+    D::parse(alloc, fields.as_slice())
 }
 
 /// Executes row `n`, 1 to 67,108,864, of `batch` on the desk and returns its answer. A well-formed
@@ -55,10 +67,7 @@ pub fn execute_row<C: Clock, D: Rows>(
         (D.form (fields_of row.now)) batch.now n fault desk.old desk.new clock.old clock.new) }
     ensures fault { IfErr result IsCallFault }
 {
-    let Ok(fields) = record_fields(alloc, row) else {
-        return Err(Fault::Memory);
-    };
-    match D::parse(alloc, fields.as_slice())? {
+    match parsed_row::<D>(alloc, row)? {
         Ok(command) => {
             let key = row_key(batch, n)?;
             let now = clock.now();

@@ -1,6 +1,6 @@
 //! The lines that a batch writes: those of the answers to rows, and the end line with the counts.
 
-ghost use Rattle.std.specs.Prelude.{◌≡◌, IfOk, string_bytes};
+ghost use Rattle.std.specs.Prelude.{◌≡◌, ◌++◌, ◌∷◌, IfOk, string_bytes};
 ghost use Rattle.brk_model.specs.Commands.{Reply};
 ghost use Rattle.brk_model.specs.Lines.{answer_line, answer_text};
 ghost use Rattle.brk_ref.specs.Answers.{abstract_answer};
@@ -12,15 +12,21 @@ use brk_ref::Answer;
 use itoa::Buffer;
 use std::alloc::{AllocError, Global};
 
+fn fields_after_word(alloc: Global, word: &str, fields: &str) -> Result<String, AllocError>
+    ensures { IfOk result (λ text. string_bytes text ≡ word.now ++ 44 ∷ fields.now) }
+{
+    format!(in alloc; "{word},{fields}")
+}
+
 fn answer_text<D: Rows>(alloc: Global, answer: &Answer<D::Reply>) -> Result<String, AllocError>
     ensures { IfOk result (λ text. string_bytes text ≡ answer_text (abstract_answer D.told answer.now)) }
 {
     match answer {
         Answer::Done(reply) => {
             let fields = D::reply_line(alloc, reply)?;
-            format!(in alloc; "ok,{fields}")
+            fields_after_word(alloc, "ok", fields.as_str())
         }
-        Answer::Again(line) => format!(in alloc; "again,{line}"),
+        Answer::Again(line) => fields_after_word(alloc, "again", line.as_str()),
         Answer::Refused(refusal) => format!(in alloc; "no,{refusal}"),
     }
 }

@@ -4,7 +4,7 @@ use Rattle.std.specs.List.{AllByRecursion}
 use Rattle.brk_model.specs.Shares.{Share, Deal, opened_share, closed_share_count_of_deal, shares_after_deal}
 use Rattle.brk_lots.specs.declared.lot.Lot.{Lot}
 use Rattle.brk_lots.specs.Lots.{share_of_lot, shares_of_lots}
-use Rattle.brk_lots.specs.Position.{IsPosition, AreOpenedByOtherTrades, AreOpenedBeforeStamp}
+use Rattle.brk_lots.specs.Position.{IsPositionInAnyOrder, AreOpenedByOtherTrades, AreOpenedBeforeStamp}
 use Rattle.brk_lots.specs.Deals.{PrecedesDealOfOtherTrade}
 use Rattle.brk_lots.proofs.Runs.{without, size_positive}
 use Rattle.brk_lots.proofs.Changes.{all_from}
@@ -44,7 +44,7 @@ all_after P d us p h =
     all_join P (without d.is_lifo (closed_share_count_of_deal d us) us) (replicate (d.qty - closed_share_count_of_deal d us) (opened_share d))
     (all_without P d.is_lifo (closed_share_count_of_deal d us) us h) (all_run P (d.qty - closed_share_count_of_deal d us) (opened_share d) p)
 
-pub old_lots : (d : Deal) (ls : List Lot) → IsPosition ls → AllByRecursion (IsOlder d) (shares_of_lots ls) → AreOpenedByOtherTrades d.trade ls × AreOpenedBeforeStamp d.stamp ls
+pub old_lots : (d : Deal) (ls : List Lot) → IsPositionInAnyOrder ls → AllByRecursion (IsOlder d) (shares_of_lots ls) → AreOpenedByOtherTrades d.trade ls × AreOpenedBeforeStamp d.stamp ls
 old_lots d [] p h = (tt, tt)
 old_lots d (l ∷ ls) p h =
     let one : IsOlder d (share_of_lot l) = of_run (IsOlder d) (unsigned_abs l.qty) (share_of_lot l) (shares_of_lots ls) (size_positive l.qty p.0) h in

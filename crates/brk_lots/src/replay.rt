@@ -1,10 +1,11 @@
 //! The replay of deals from no lots, and the changes of lots that it makes.
 
-ghost use Rattle.std.specs.Prelude.{◌≡◌, ◌++◌, [], map, IfOk, IfErr, OnOk};
+ghost use Rattle.std.specs.Prelude.{◌≡◌, ◌≢◌, ◌<◌, ◌++◌, [], map, IfOk, IfErr, OnOk};
+ghost use Rattle.std.specs.List.{AllByRecursion};
 ghost use Rattle.std.specs.Option.{option_to_list};
-ghost use Rattle.brk_model.specs.Shares.{replay};
+ghost use Rattle.brk_model.specs.Shares.{replay, shares_after_deal};
 ghost use Rattle.brk_model.specs.Tables.{holding_history_row};
-ghost use Rattle.brk_lots.specs.Chains.{opening_touch, abstract_deal_touch, lot_changes_of_deals};
+ghost use Rattle.brk_lots.specs.Chains.{opening_touch, abstract_deal_touch, lot_changes_of_deal, lot_changes_of_deals};
 ghost use Rattle.brk_lots.specs.Deals.{AreDistinctAscendingDeals};
 ghost use Rattle.brk_lots.specs.Lots.{shares_of_lots, abstract_deal, abstract_lot, abstract_touch};
 
@@ -93,17 +94,34 @@ impl Position {
     {
         let mut position = Position::new(alloc);
         for deal in deals {
-            let mut end = position.from_end(deal.lifo);
-            let Ok(closing) = close(
-                alloc, &mut end, deal.side, deal.qty, deal.trade, deal.price, deal.stamp,
-            ) else {
-                return Err(AllocError);
-            };
-            let Ok(()) = position.apply(&closing) else {
-                return Err(AllocError);
-            };
-            append_changes(rows, deal.trade, &closing)?;
+            position.apply_deal(alloc, deal, rows)?;
         }
         Ok(position)
+    }
+
+    // Applies a deal that is later than each share and of another trade, and appends the changes of
+    // lots. A call that fails may have appended some of them.
+    fn apply_deal(
+        &mut self,
+        alloc: Global,
+        deal: &Deal,
+        rows: &mut Vec<DealTouch>,
+    ) -> Result<(), AllocError>
+        requires { AllByRecursion (λ share. (share.trade ≢ deal.now.trade) × (share.stamp < deal.now.stamp)) (shares_of_lots self.old) }
+        ensures shares { OnOk result (shares_of_lots self.new ≡ shares_after_deal (shares_of_lots self.old) (abstract_deal deal.now)) }
+        ensures rows { OnOk result (map abstract_deal_touch rows.new.items
+            ≡ map abstract_deal_touch rows.old.items ++ lot_changes_of_deal (abstract_deal deal.now) (shares_of_lots self.old)) }
+    {
+        let mut end = self.from_end(deal.lifo);
+        let Ok(closing) = close(
+            alloc, &mut end, deal.side, deal.qty, deal.trade, deal.price, deal.stamp,
+        ) else {
+            return Err(AllocError);
+        };
+        let Ok(()) = self.apply(&closing) else {
+            return Err(AllocError);
+        };
+        append_changes(rows, deal.trade, &closing)?;
+        Ok(())
     }
 }

@@ -16,7 +16,8 @@ pub fn all_shares_have_one_side()
     ensures { (deals : List Deal) → AllSharesHaveSameSide (replay deals) }
 {}
 
-/// If trades are numbered from 1, the lots of a position total the shares bought less those sold.
+/// The lots of a position total the shares bought less those sold: if trades are numbered from 1, and
+/// after any run from a base in which each reference resolves.
 pub fn lots_sum_to_the_summary()
     ensures numbered { (base : Base) (account : ℕ) (symbol : List ℕ) → TradesAreNumberedFrom 1 base.trades
         → total_by (λ row. row.qty) (filter (is_row_of_position account symbol) (tables_of_base base).holdings)

@@ -1,64 +1,12 @@
 -- Fields that are read side by side, where the only refusal is `BadText`.
-use Rattle.std.proofs.Common.{◌≡◌, Bool, true, false, refl, arith, cond, ◌&&◌}
-use Rattle.std.specs.Prelude.{Option, Some, None, Ok, Err, IfErr, nat_le, nat_abs}
+use Rattle.std.proofs.Common.{◌≡◌, refl, arith, cond}
+use Rattle.std.specs.Prelude.{Ok, Err, nat_le}
 use Rattle.brk_money.specs.declared.refusal.Refusal.{Refusal}
 use Rattle.brk_money.specs.declared.refusal.Refusal.TheVariants.{BadText, BadQty, BadPrice, BadType, TooMany, KeyReused, NoAccount, NoCustomer, NoBroker}
 use Rattle.brk_money.specs.declared.refusal.Refusal.TheVariants.{NoSecurity, NoTrade, NoTax, WrongStatus, NotPermitted, Exists, Overlap, TaxSum, NoCharge}
 use Rattle.brk_money.specs.declared.refusal.Refusal.TheVariants.{NoRate, Range, ClockEnd, TooEarly}
 use Rattle.std.proofs.lemmas.Bool.{le-leb}
-use Rattle.std.specs.Option.{option_and_then}
-use Rattle.brk_money.specs.Spelling.{Text, decimal_number_of_text, cents_of_text}
-use Rattle.brk_money.specs.Kinds.{tax_status_with_number}
-use Rattle.brk_model.specs.Limits.{greatest_id, greatest_amount}
-use Rattle.brk_model.specs.Forms.{ReadResult, format_refusal_rank, ◌⊛◌, value_if_valid, read_id, read_name, read_tax_status, read_opening_balance, is_name}
-
--- a refusal is of text
-pub IsPlain : {A : Type 0} → ReadResult A → Type 0
-IsPlain r = IfErr r (λ refusal. refusal ≡ BadText)
-
-pub plain_if : {A : Type 0} (test : A → Bool) (o : Option A) → IsPlain (value_if_valid test BadText o)
-unfolding IsPlain
-plain_if test None = refl
-plain_if {A} test (Some x) = by_test (test x)
-  where
-    by_test : (b : Bool) → IfErr (let r : ReadResult A = cond b (Ok x) (Err BadText) in r) (λ refusal. refusal ≡ BadText)
-    by_test true = tt
-    by_test false = refl
-
-pub plain_id : (text : Text) → IsPlain (read_id text)
-plain_id text = plain_if (λ n. nat_le 1 n && nat_le n greatest_id) (decimal_number_of_text text)
-
-pub plain_name : (text : Text) → IsPlain (read_name text)
-plain_name text = plain_if is_name (Some text)
-
-pub plain_tax_status : (text : Text) → IsPlain (read_tax_status text)
-plain_tax_status text = plain_if (λ _. true) (option_and_then tax_status_with_number (decimal_number_of_text text))
-
-pub plain_opening : (text : Text) → IsPlain (read_opening_balance text)
-plain_opening text = plain_if (λ z. nat_le (nat_abs z) greatest_amount) (cents_of_text text)
-
--- the first was refused, or the second
-pub refused_first : {A B : Type 0} (f : ReadResult (A → B)) (x : ReadResult A) → f ≡ Err BadText → IsPlain x → f ⊛ x ≡ Err BadText
-unfolding IsPlain
-refused_first f (Ok x) e p = rw e refl
-refused_first f (Err s) e p = rw (e, p) refl
-
-pub refused_second : {A B : Type 0} (g : A → B) (x : ReadResult A) → x ≡ Err BadText → Ok g ⊛ x ≡ Err BadText
-refused_second g x e = rw e refl
-
--- an account of whose fields the first or the second is refused
-pub no_account_id : {A B C D E F G : Type 0} (f : A → B → C → D → E → F → G) (a : ReadResult A) (b : ReadResult B) (c : ReadResult C) (d : ReadResult D) (e : ReadResult E) (o : ReadResult F)
-    → a ≡ Err BadText → IsPlain b → IsPlain c → IsPlain d → IsPlain e → IsPlain o → Ok f ⊛ a ⊛ b ⊛ c ⊛ d ⊛ e ⊛ o ≡ Err BadText
-no_account_id f a b c d e o h pb pc pd pe po =
-    refused_first (Ok f ⊛ a ⊛ b ⊛ c ⊛ d ⊛ e) o (refused_first (Ok f ⊛ a ⊛ b ⊛ c ⊛ d) e (refused_first (Ok f ⊛ a ⊛ b ⊛ c) d
-    (refused_first (Ok f ⊛ a ⊛ b) c (refused_first (Ok f ⊛ a) b (refused_second f a h) pb) pc) pd) pe) po
-
-pub no_account_customer : {A B C D E F G : Type 0} (f : A → B → C → D → E → F → G) (a : ReadResult A) (x : A) (b : ReadResult B) (c : ReadResult C)
-    (d : ReadResult D) (e : ReadResult E) (o : ReadResult F)
-    → a ≡ Ok x → b ≡ Err BadText → IsPlain c → IsPlain d → IsPlain e → IsPlain o → Ok f ⊛ a ⊛ b ⊛ c ⊛ d ⊛ e ⊛ o ≡ Err BadText
-no_account_customer f a x b c d e o g h pc pd pe po =
-    refused_first (Ok f ⊛ a ⊛ b ⊛ c ⊛ d ⊛ e) o (refused_first (Ok f ⊛ a ⊛ b ⊛ c ⊛ d) e (refused_first (Ok f ⊛ a ⊛ b ⊛ c) d
-    (refused_first (Ok f ⊛ a ⊛ b) c (rw g (refused_second (f x) b h)) pc) pd) pe) po
+use Rattle.brk_model.specs.Forms.{ReadResult, format_refusal_rank, ◌⊛◌}
 
 -- a refusal of text stands before every other one
 least : (r : Refusal) → cond (nat_le (format_refusal_rank r) 0) r BadText ≡ BadText
@@ -119,3 +67,25 @@ module _ {A B C D E F : Type 0} (f : A → B → C → D → E → F) (a : ReadR
 
     pub fifth_of_five_refused : e ≡ Err BadText → Ok f ⊛ a ⊛ b ⊛ c ⊛ d ⊛ e ≡ Err BadText
     fifth_of_five_refused h = text_right (Ok f ⊛ a ⊛ b ⊛ c ⊛ d) e h
+
+-- one of six values is refused as text
+module _ {A B C D E F G : Type 0} (f : A → B → C → D → E → F → G) (a : ReadResult A) (b : ReadResult B) (c : ReadResult C) (d : ReadResult D) (e : ReadResult E)
+    (o : ReadResult F)
+  where
+    pub first_of_six_refused : a ≡ Err BadText → Ok f ⊛ a ⊛ b ⊛ c ⊛ d ⊛ e ⊛ o ≡ Err BadText
+    first_of_six_refused h = text_left (Ok f ⊛ a ⊛ b ⊛ c ⊛ d ⊛ e) o (first_of_five_refused f a b c d e h)
+
+    pub second_of_six_refused : b ≡ Err BadText → Ok f ⊛ a ⊛ b ⊛ c ⊛ d ⊛ e ⊛ o ≡ Err BadText
+    second_of_six_refused h = text_left (Ok f ⊛ a ⊛ b ⊛ c ⊛ d ⊛ e) o (second_of_five_refused f a b c d e h)
+
+    pub third_of_six_refused : c ≡ Err BadText → Ok f ⊛ a ⊛ b ⊛ c ⊛ d ⊛ e ⊛ o ≡ Err BadText
+    third_of_six_refused h = text_left (Ok f ⊛ a ⊛ b ⊛ c ⊛ d ⊛ e) o (third_of_five_refused f a b c d e h)
+
+    pub fourth_of_six_refused : d ≡ Err BadText → Ok f ⊛ a ⊛ b ⊛ c ⊛ d ⊛ e ⊛ o ≡ Err BadText
+    fourth_of_six_refused h = text_left (Ok f ⊛ a ⊛ b ⊛ c ⊛ d ⊛ e) o (fourth_of_five_refused f a b c d e h)
+
+    pub fifth_of_six_refused : e ≡ Err BadText → Ok f ⊛ a ⊛ b ⊛ c ⊛ d ⊛ e ⊛ o ≡ Err BadText
+    fifth_of_six_refused h = text_left (Ok f ⊛ a ⊛ b ⊛ c ⊛ d ⊛ e) o (fifth_of_five_refused f a b c d e h)
+
+    pub sixth_of_six_refused : o ≡ Err BadText → Ok f ⊛ a ⊛ b ⊛ c ⊛ d ⊛ e ⊛ o ≡ Err BadText
+    sixth_of_six_refused h = text_right (Ok f ⊛ a ⊛ b ⊛ c ⊛ d ⊛ e) o h

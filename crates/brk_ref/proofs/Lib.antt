@@ -1,4 +1,5 @@
 pub mod Applied
+pub mod FieldLists
 pub mod Limits
 pub mod Lists
 mod Moments

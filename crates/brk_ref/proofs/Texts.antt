@@ -9,7 +9,7 @@ use Rattle.std.proofs.lemmas.Bool.{le-leb, lt-leb}
 use Rattle.std.specs.Borrow.{Bor}
 use Rattle.std.specs.Prelude.{Err}
 use Rattle.brk_money.specs.declared.refusal.Refusal.TheVariants.{BadText}
-use Rattle.brk_model.specs.Parse.{read_account, read_charge, read_permission, read_listing, read_commission_band}
+use Rattle.brk_model.specs.Parse.{read_broker, read_customer, read_account, read_permission, read_listing, read_charge, read_commission_band, read_tax_rate}
 use Rattle.brk_ref.specs.Fields.{texts_of_fields}
 use Rattle.brk_model.specs.Forms.{is_name, is_word_up_to_length}
 
@@ -32,38 +32,37 @@ too_long most test text h = by_low (nat_le 1 (length text))
 pub word_is : (most : ℕ) (test : ℕ → Bool) (text : List ℕ) (all : Bool) → 1 ≤ length text → length text ≤ most → all ≡ list_all test text → all ≡ is_word_up_to_length most test text
 word_is most test text all low high e = sym (rw (le-leb 1 (length text) low, le-leb (length text) most high) (sym e))
 
--- an account has six fields
-pub not_six : (fields : List (Bor (List ℕ))) → (length fields ≡ 6 → ⊥) → read_account (texts_of_fields fields) ≡ Err BadText
-not_six [] h = refl
-not_six (a ∷ []) h = refl
-not_six (a ∷ b ∷ []) h = refl
-not_six (a ∷ b ∷ c ∷ []) h = refl
-not_six (a ∷ b ∷ c ∷ d ∷ []) h = refl
-not_six (a ∷ b ∷ c ∷ d ∷ e ∷ []) h = refl
-not_six (a ∷ b ∷ c ∷ d ∷ e ∷ f ∷ []) h = absurd (h refl)
-not_six (a ∷ b ∷ c ∷ d ∷ e ∷ f ∷ g ∷ rest) h = refl
+-- a broker has two fields
+pub not_broker : (fields : List (Bor (List ℕ))) → (length fields ≡ 2 → ⊥) → read_broker (texts_of_fields fields) ≡ Err BadText
+not_broker [] h = refl
+not_broker (a ∷ []) h = refl
+not_broker (a ∷ b ∷ []) h = absurd (h refl)
+not_broker (a ∷ b ∷ c ∷ rest) h = refl
 
--- three fields follow the parties of an account
-pub too_few_terms : (id customer broker : List ℕ) (terms : List (Bor (List ℕ))) → length terms < 3 → read_account (id ∷ customer ∷ broker ∷ texts_of_fields terms) ≡ Err BadText
-too_few_terms i c b [] h = refl
-too_few_terms i c b (x ∷ []) h = refl
-too_few_terms i c b (x ∷ y ∷ []) h = refl
-too_few_terms i c b (x ∷ y ∷ z ∷ rest) h = absurd (omega arith)
+-- a tax has three fields, a charge too
+pub not_tax : (fields : List (Bor (List ℕ))) → (length fields ≡ 3 → ⊥) → read_tax_rate (texts_of_fields fields) ≡ Err BadText
+not_tax [] h = refl
+not_tax (a ∷ []) h = refl
+not_tax (a ∷ b ∷ []) h = refl
+not_tax (a ∷ b ∷ c ∷ []) h = absurd (h refl)
+not_tax (a ∷ b ∷ c ∷ d ∷ rest) h = refl
 
-pub too_many_terms : (id customer broker : List ℕ) (terms : List (Bor (List ℕ))) → 3 < length terms → read_account (id ∷ customer ∷ broker ∷ texts_of_fields terms) ≡ Err BadText
-too_many_terms i c b [] h = refl
-too_many_terms i c b (x ∷ []) h = refl
-too_many_terms i c b (x ∷ y ∷ []) h = refl
-too_many_terms i c b (x ∷ y ∷ z ∷ []) h = absurd (omega arith)
-too_many_terms i c b (x ∷ y ∷ z ∷ w ∷ rest) h = refl
-
--- a charge has three fields, a permission and a security have five, a band six
 pub not_charge : (fields : List (Bor (List ℕ))) → (length fields ≡ 3 → ⊥) → read_charge (texts_of_fields fields) ≡ Err BadText
 not_charge [] h = refl
 not_charge (a ∷ []) h = refl
 not_charge (a ∷ b ∷ []) h = refl
 not_charge (a ∷ b ∷ c ∷ []) h = absurd (h refl)
 not_charge (a ∷ b ∷ c ∷ g ∷ rest) h = refl
+
+-- a customer has five fields, a permission and a security too
+pub not_customer : (fields : List (Bor (List ℕ))) → (length fields ≡ 5 → ⊥) → read_customer (texts_of_fields fields) ≡ Err BadText
+not_customer [] h = refl
+not_customer (a ∷ []) h = refl
+not_customer (a ∷ b ∷ []) h = refl
+not_customer (a ∷ b ∷ c ∷ []) h = refl
+not_customer (a ∷ b ∷ c ∷ d ∷ []) h = refl
+not_customer (a ∷ b ∷ c ∷ d ∷ e ∷ []) h = absurd (h refl)
+not_customer (a ∷ b ∷ c ∷ d ∷ e ∷ f ∷ rest) h = refl
 
 pub not_permission : (fields : List (Bor (List ℕ))) → (length fields ≡ 5 → ⊥) → read_permission (texts_of_fields fields) ≡ Err BadText
 not_permission [] h = refl
@@ -83,6 +82,17 @@ not_security (a ∷ b ∷ c ∷ d ∷ []) h = refl
 not_security (a ∷ b ∷ c ∷ d ∷ e ∷ []) h = absurd (h refl)
 not_security (a ∷ b ∷ c ∷ d ∷ e ∷ g ∷ rest) h = refl
 
+-- an account has six fields, a band too
+pub not_account : (fields : List (Bor (List ℕ))) → (length fields ≡ 6 → ⊥) → read_account (texts_of_fields fields) ≡ Err BadText
+not_account [] h = refl
+not_account (a ∷ []) h = refl
+not_account (a ∷ b ∷ []) h = refl
+not_account (a ∷ b ∷ c ∷ []) h = refl
+not_account (a ∷ b ∷ c ∷ d ∷ []) h = refl
+not_account (a ∷ b ∷ c ∷ d ∷ e ∷ []) h = refl
+not_account (a ∷ b ∷ c ∷ d ∷ e ∷ f ∷ []) h = absurd (h refl)
+not_account (a ∷ b ∷ c ∷ d ∷ e ∷ f ∷ g ∷ rest) h = refl
+
 pub not_band : (fields : List (Bor (List ℕ))) → (length fields ≡ 6 → ⊥) → read_commission_band (texts_of_fields fields) ≡ Err BadText
 not_band [] h = refl
 not_band (a ∷ []) h = refl
@@ -92,17 +102,3 @@ not_band (a ∷ b ∷ c ∷ d ∷ []) h = refl
 not_band (a ∷ b ∷ c ∷ d ∷ e ∷ []) h = refl
 not_band (a ∷ b ∷ c ∷ d ∷ e ∷ f ∷ []) h = absurd (h refl)
 not_band (a ∷ b ∷ c ∷ d ∷ e ∷ f ∷ g ∷ rest) h = refl
-
--- three fields follow the tier, the type and the exchange of a band
-pub too_few_bounds : (tier kind exchange : List ℕ) (terms : List (Bor (List ℕ))) → length terms < 3 → read_commission_band (tier ∷ kind ∷ exchange ∷ texts_of_fields terms) ≡ Err BadText
-too_few_bounds t k e [] h = refl
-too_few_bounds t k e (x ∷ []) h = refl
-too_few_bounds t k e (x ∷ y ∷ []) h = refl
-too_few_bounds t k e (x ∷ y ∷ z ∷ rest) h = absurd (omega arith)
-
-pub too_many_bounds : (tier kind exchange : List ℕ) (terms : List (Bor (List ℕ))) → 3 < length terms → read_commission_band (tier ∷ kind ∷ exchange ∷ texts_of_fields terms) ≡ Err BadText
-too_many_bounds t k e [] h = refl
-too_many_bounds t k e (x ∷ []) h = refl
-too_many_bounds t k e (x ∷ y ∷ []) h = refl
-too_many_bounds t k e (x ∷ y ∷ z ∷ []) h = absurd (omega arith)
-too_many_bounds t k e (x ∷ y ∷ z ∷ w ∷ rest) h = refl

@@ -49,13 +49,13 @@ fn parse_account(
     let Some(broker) = parse_id(broker) else {
         return Ok(Err(Refusal::BadText));
     };
-    let Some(name) = Name::parse(alloc, name)? else {
-        return Ok(Err(Refusal::BadText));
-    };
     let Some(tax_status) = parse_tax_status(tax_status) else {
         return Ok(Err(Refusal::BadText));
     };
     let Some(opening) = parse_balance(opening) else {
+        return Ok(Err(Refusal::BadText));
+    };
+    let Some(name) = Name::parse(alloc, name)? else {
         return Ok(Err(Refusal::BadText));
     };
     Ok(Ok(Account {
@@ -68,29 +68,13 @@ fn parse_account(
     }))
 }
 
-// `terms` are the last fields: NAME, TAXST and OPENING.
-fn parse_account_with_last_fields(
-    alloc: Global,
-    id: &[u8],
-    customer: &[u8],
-    broker: &[u8],
-    terms: &[&[u8]],
-) -> Planned<Account, AllocError>
-    ensures { IfOk result (λ read. ParsesAs abstract_account read (read_account (id.now ∷ customer.now ∷ broker.now ∷ texts_of_fields terms.now))) }
-{
-    let [name, tax_status, opening] = terms else {
-        return Ok(Err(Refusal::BadText));
-    };
-    parse_account(alloc, id, customer, broker, name, tax_status, opening)
-}
-
 /// Parses the fields ID, CUSTOMER, BROKER, NAME, TAXST and OPENING. Refuses with `BadText` (18).
 pub fn check_account(alloc: Global, fields: &[&[u8]]) -> Planned<Account>
     ensures read { IfOk result (λ read. ParsesAs abstract_account read (read_account (texts_of_fields fields.now))) }
     ensures fault { OnErr result (result ≡ Err Memory) }
 {
-    let [id, customer, broker, terms @ ..] = fields else {
+    let [id, customer, broker, name, tax_status, opening] = fields else {
         return Ok(Err(Refusal::BadText));
     };
-    Ok(parse_account_with_last_fields(alloc, id, customer, broker, terms)?)
+    Ok(parse_account(alloc, id, customer, broker, name, tax_status, opening)?)
 }

@@ -80,32 +80,16 @@ fn parse_band(
     }))
 }
 
-// `terms` are the last fields: FROM, TO and RATE.
-fn parse_band_with_last_fields(
-    alloc: Global,
-    tier: &[u8],
-    kind: &[u8],
-    exchange: &[u8],
-    terms: &[&[u8]],
-) -> Planned<Band, AllocError>
-    ensures { IfOk result (λ read. ParsesAs abstract_band read (read_commission_band (tier.now ∷ kind.now ∷ exchange.now ∷ texts_of_fields terms.now))) }
-{
-    let [low, high, rate] = terms else {
-        return Ok(Err(Refusal::BadText));
-    };
-    parse_band(alloc, tier, kind, exchange, low, high, rate)
-}
-
 /// Parses the fields TIER, TYPE, EXCHANGE, FROM, TO and RATE. Refuses with `BadText` (18),
 /// otherwise with `BadQty` (8), also if FROM exceeds TO, otherwise with `BadType` (7).
 pub fn check_band(alloc: Global, fields: &[&[u8]]) -> Planned<Band>
     ensures read { IfOk result (λ read. ParsesAs abstract_band read (read_commission_band (texts_of_fields fields.now))) }
     ensures fault { OnErr result (result ≡ Err Memory) }
 {
-    let [tier, kind, exchange, terms @ ..] = fields else {
+    let [tier, kind, exchange, low, high, rate] = fields else {
         return Ok(Err(Refusal::BadText));
     };
-    Ok(parse_band_with_last_fields(alloc, tier, kind, exchange, terms)?)
+    Ok(parse_band(alloc, tier, kind, exchange, low, high, rate)?)
 }
 
 /// Returns true if the quantity is within the bounds of the band, both included.

@@ -1,4 +1,4 @@
-ghost use Rattle.std.specs.Prelude.{◌≡◌, IfOk, OnErr, Err};
+ghost use Rattle.std.specs.Prelude.{◌≡◌, ◌∷◌, [], IfOk, OnErr, Err};
 ghost use Rattle.brk_model.specs.Parse.{read_broker};
 ghost use Rattle.brk_money.specs.declared.fault.Fault.TheVariants.{Memory};
 ghost use Rattle.brk_ref.specs.Records.{abstract_broker};
@@ -7,7 +7,7 @@ ghost use Rattle.brk_ref.specs.Fields.{ParsesAs, texts_of_fields};
 use crate::name::Name;
 use crate::numbers::parse_id;
 use brk_money::{Id, Planned, Refusal};
-use std::alloc::Global;
+use std::alloc::{AllocError, Global};
 
 /// A broker, without its totals.
 #[derive(Clone, Drop)]
@@ -25,6 +25,18 @@ pub struct BrokerRow {
     pub commissions: u64,
 }
 
+fn parse_broker(alloc: Global, id: &[u8], name: &[u8]) -> Planned<Broker, AllocError>
+    ensures { IfOk result (λ read. ParsesAs abstract_broker read (read_broker (id.now ∷ name.now ∷ []))) }
+{
+    let Some(id) = parse_id(id) else {
+        return Ok(Err(Refusal::BadText));
+    };
+    let Some(name) = Name::parse(alloc, name)? else {
+        return Ok(Err(Refusal::BadText));
+    };
+    Ok(Ok(Broker { id, name }))
+}
+
 /// Parses the fields ID and NAME. Refuses with `BadText` (18).
 pub fn check_broker(alloc: Global, fields: &[&[u8]]) -> Planned<Broker>
     ensures read { IfOk result (λ read. ParsesAs abstract_broker read (read_broker (texts_of_fields fields.now))) }
@@ -33,11 +45,5 @@ pub fn check_broker(alloc: Global, fields: &[&[u8]]) -> Planned<Broker>
     let [id, name] = fields else {
         return Ok(Err(Refusal::BadText));
     };
-    let Some(id) = parse_id(id) else {
-        return Ok(Err(Refusal::BadText));
-    };
-    let Some(name) = Name::parse(alloc, name)? else {
-        return Ok(Err(Refusal::BadText));
-    };
-    Ok(Ok(Broker { id, name }))
+    Ok(parse_broker(alloc, id, name)?)
 }

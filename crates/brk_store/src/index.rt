@@ -77,7 +77,7 @@ pub(crate) fn read_index<S: Alter>(conn: &mut Connection<S>, alloc: Global) -> S
 }
 
 // Fails if the database is closed, or the read closed it.
-fn read_index_of_open<S: Alter>(
+fn read_index_while_open<S: Alter>(
     conn: &mut Connection<S>,
     alloc: Global,
 ) -> Result<StoreIndex, StoreFailed>
@@ -122,7 +122,7 @@ pub(crate) fn index_of_adopted<S: Alter>(
     if is_upgraded {
         return Ok(StoreIndex::Unmade);
     }
-    read_index_of_open(conn, alloc)
+    read_index_while_open(conn, alloc)
 }
 
 impl<S: Alter> Store<S> {

@@ -16,9 +16,8 @@ use brk_money::{CallFault, Id, Stamp, StoreFailed};
 use brk_ref::{Span, Symbol, TradeRow};
 use brk_store_index::Group;
 use brk_store_reads::by_age::read_optional_row;
-use brk_store_reads::trades_by_age::{
-    TradesOfAccount, TradesOfSymbol, first_age_since, read_twenty_between,
-};
+use brk_store_reads::chosen_ages::first_age_since;
+use brk_store_reads::trades_by_age::{TradesOfAccount, TradesOfSymbol, read_twenty_between};
 use brk_store_transactions::begin_transaction;
 use sqlite::Alter;
 use std::alloc::Global;

@@ -28,7 +28,8 @@ use std::collections::VecDeque;
 // A scan passes over some so many rows in the time of one read by key.
 const ROWS_SCANNED_PER_READ: usize = 32;
 
-// True if the reads by key take no longer than a scan of `rows` rows.
+// True if the reads by key take no longer than a scan of `rows` rows; a group that is not there is
+// empty. What is read is the same either way.
 fn are_few(ages: Option<&VecDeque<RowAge>>, rows: usize) -> bool {
     match ages {
         Some(ages) => ages.len() <= rows / ROWS_SCANNED_PER_READ,

@@ -58,7 +58,7 @@ fn accounts_of_rows(alloc: Global, rows: &[AccountRow]) -> Result<AgesByNumber, 
 }
 
 // Fails also if a trade changed a lot twice.
-fn changes_of_rows(alloc: Global, rows: &[LotChange]) -> Result<AgesByNumber, IndexLost>
+fn lot_changes_of_rows(alloc: Global, rows: &[LotChange]) -> Result<AgesByNumber, IndexLost>
     ensures { IfOk result (λ changes. AreLotChangesOf changes (map abstract_lot_change_row rows.now)) }
 {
     let mut changes = AgesByNumber::new(alloc);
@@ -123,7 +123,7 @@ impl RowIndex {
             lots: LotGroups::of_rows(alloc, lots)?,
             trades: TradeGroups::of_rows(alloc, trades)?,
             accounts: accounts_of_rows(alloc, accounts)?,
-            changes: changes_of_rows(alloc, changes)?,
+            changes: lot_changes_of_rows(alloc, changes)?,
             cash: cash_of_rows(alloc, cash)?,
             prices: LastPrices::of_rows(alloc, last_trades)?,
         })

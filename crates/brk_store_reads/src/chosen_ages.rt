@@ -3,6 +3,7 @@
 ghost use Rattle.std.specs.Prelude.{◌≡◌, ◌+◌, ◌<◌, ◌^◌, IfOk, drop, false, take, true};
 ghost use Rattle.std.specs.Option.{option_copied};
 ghost use Rattle.brk_store_index.specs.Ages.{IsPlaceOfStamp, ages_in, in_order};
+ghost use Rattle.brk_store_reads.specs.RowsByAge.{IsFirstAgeSince};
 
 use brk_money::Stamp;
 use brk_store_index::RowAge;
@@ -75,5 +76,16 @@ pub(crate) fn places_of_span(
             place_of_stamp(ages, last, true),
         ),
         None => (0, 0),
+    }
+}
+
+/// Returns the age of the oldest row whose stamp is at least `stamp`, of ages that rise, or `None` if
+/// there is none.
+pub fn first_age_since(ages: Option<&VecDeque<RowAge>>, stamp: Stamp) -> Option<RowAge>
+    ensures { IsFirstAgeSince stamp (ages_in (option_copied ages.entry)) result }
+{
+    match ages {
+        Some(ages) => age_in_order(ages, false, place_of_stamp(ages, stamp, false)),
+        None => None,
     }
 }

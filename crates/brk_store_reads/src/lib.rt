@@ -5,7 +5,7 @@
 pub mod accounts_by_age;
 pub mod by_age;
 pub mod cash_by_age;
-mod chosen_ages;
+pub mod chosen_ages;
 pub mod lots_by_symbol;
 pub mod row_index;
 pub mod trades_by_age;

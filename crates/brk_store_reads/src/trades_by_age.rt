@@ -7,7 +7,7 @@ ghost use Rattle.brk_money.specs.declared.status.Status.TheVariants.{Submitted};
 ghost use Rattle.brk_ref.specs.Rows.{abstract_trade_row};
 ghost use Rattle.brk_store_index.specs.Ages.{ages_in};
 ghost use Rattle.brk_store_index.specs.Index.{row_of_age, trade_of_age};
-ghost use Rattle.brk_store_reads.specs.RowsByAge.{AreFirstTwentyBetween, IsFirstAgeSince};
+ghost use Rattle.brk_store_reads.specs.RowsByAge.{AreFirstTwentyBetween};
 ghost use Rattle.brk_store_transactions.specs.Holds.{ReadPost};
 ghost use Rattle.brk_tables_schema.specs.Desk.{Trades};
 ghost use Rattle.brk_tables_schema.specs.Statements.{IsFirstMatch};
@@ -17,7 +17,6 @@ use crate::chosen_ages::places_of_span;
 use brk_money::{CallFault, Id, Stamp, Status, StoreFailed};
 use brk_ref::{Symbol, TradeRow};
 use brk_store_index::RowAge;
-use brk_store_index::ages::{age_in_order, place_of_stamp};
 use brk_store_transactions::begin_transaction;
 use sqlite::{Alter, Connection};
 use std::alloc::Global;
@@ -131,14 +130,4 @@ pub fn read_twenty_between<S: Alter, K: RowsByAge<S, TradeRow>>(
     let (from, until) = places_of_span(ages, first, last);
     let most = until.saturating_sub(from).min(20);
     read_chosen_rows(conn, alloc, kind, ages, false, from, most)
-}
-
-/// Returns the age of the oldest row whose stamp is at least `stamp`.
-pub fn first_age_since(ages: Option<&VecDeque<RowAge>>, stamp: Stamp) -> Option<RowAge>
-    ensures { IsFirstAgeSince stamp (ages_in (option_copied ages.entry)) result }
-{
-    match ages {
-        Some(ages) => age_in_order(ages, false, place_of_stamp(ages, stamp, false)),
-        None => None,
-    }
 }

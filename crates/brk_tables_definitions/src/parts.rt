@@ -46,13 +46,13 @@ pub(crate) fn columns_are(columns: &[Column], definitions: &[ColumnDefinition]) 
     true
 }
 
-fn is_one_place(places: &Items<usize>, place: usize) -> bool
+fn is_only_place(places: &Items<usize>, place: usize) -> bool
     ensures { IsTrue result ↔ (places.now ≡ place ∷ []) }
 {
     places.as_slice() == [place].as_slice()
 }
 
-fn is_one_text(texts: &Items<Bytes>, text: &str) -> bool
+fn is_only_text(texts: &Items<Bytes>, text: &str) -> bool
     ensures { IsTrue result ↔ (texts.now ≡ text.now ∷ []) }
 {
     match texts.as_slice() {
@@ -68,9 +68,9 @@ fn reference_is(reference: &Reference, place: usize, parent: &str, column: &str)
     reference.on_delete == Action::NoAction
         && reference.on_update == Action::NoAction
         && !reference.is_deferred
-        && is_one_place(&reference.columns, place)
+        && is_only_place(&reference.columns, place)
         && text_is(&reference.parent, parent)
-        && is_one_text(&reference.parent_columns, column)
+        && is_only_text(&reference.parent_columns, column)
 }
 
 pub(crate) fn references_are(references: &[Reference], definitions: &[ReferenceDefinition]) -> bool

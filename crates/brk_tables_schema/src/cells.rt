@@ -49,7 +49,7 @@ fn read_column<T: FromSql>(row: &Row, at: usize) -> Result<T, DecodeError>
     }
 }
 
-// Borrows the bytes, which need not be UTF-8.
+// Borrows the bytes of a text, which need not be UTF-8. A BLOB is no text.
 fn bytes_cell(row: &Row, at: usize) -> Result<&[u8], DecodeError>
     ensures value { IfOk result (λ bytes. column row.now at ≡ Text bytes.now) }
     ensures form { result ≡ Err Formless → at < length row.now → is_text_cell (λ _. true) (column row.now at) ≡ false }

@@ -5,7 +5,7 @@
 use crate::replay::{append_escaped_lines_with_prefix, append_output_line};
 use brk_cli_args::read_words;
 use brk_cli_exit::end_with;
-use brk_cli_jobs::{MachineFiles, PipeWriter, execute_requested_job};
+use brk_cli_jobs::{PipeWriter, execute_requested_job_on_machine};
 use sqlite::Connection;
 use std::alloc::{AllocError, Global};
 use std::fs;
@@ -45,7 +45,7 @@ fn run_program(
 ) -> Result<(), AllocError> {
     let words = read_words(program_name_and_arguments(rt.alloc(), words)?);
     let mut output = PipeWriter::new(Vec::new(rt.alloc()));
-    let ending = execute_requested_job(rt, &MachineFiles::new(rt), words, input, &mut output);
+    let ending = execute_requested_job_on_machine(rt, words, input, &mut output);
     let mut errors = Vec::new(rt.alloc());
     let status = end_with(&ending, &mut errors);
     append_program_result(out, &output.into_output(), &errors, status)

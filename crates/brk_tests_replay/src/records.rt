@@ -148,9 +148,9 @@ fn append_cell_text(out: &mut String, row: &Row, at: usize) -> Result<(), AllocE
     if at > 0 {
         out.push_str("|")?;
     }
-    match row.get_ref(at) {
-        Ok(ValueRef::Int(number)) => write!(out, "{number}"),
-        Ok(ValueRef::Text(bytes)) => append_escaped_bytes(out, bytes, true),
+    match row.get_ref(at).unwrap_or(ValueRef::Null) {
+        ValueRef::Int(number) => write!(out, "{number}"),
+        ValueRef::Text(bytes) => append_escaped_bytes(out, bytes, true),
         _ => out.push_str("\\x00"),
     }
 }

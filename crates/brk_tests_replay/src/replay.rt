@@ -29,8 +29,12 @@ enum Escape {
 
 // Returns the value of a hexadecimal digit, or 0 for any other byte.
 fn value_of_hex_digit(byte: u8) -> u8 {
-    let value = char::from(byte).to_digit(16).unwrap_or(0);
-    u8::try_from(value).unwrap_or(0)
+    match byte {
+        b'0'..=b'9' => byte - b'0',
+        b'a'..=b'f' => byte - b'a' + 10,
+        b'A'..=b'F' => byte - b'A' + 10,
+        _ => 0,
+    }
 }
 
 // Unescapes the byte `byte` of an input line (`unescape_input_line`); `read` is the part of an
@@ -74,7 +78,7 @@ fn append_escaped_char(out: &mut String, c: char, in_record: bool) -> Result<(),
         '\\' => out.push_str("\\\\"),
         '\r' => out.push_str("\\r"),
         '|' if in_record => out.push_str("\\x7c"),
-        '\0'..='\x1f' | '\x7f' => write!(out, "\\x{:02x}", u32::from(c)),
+        _ if c.is_ascii_control() => write!(out, "\\x{:02x}", u32::from(c)),
         _ => out.push(c),
     }
 }

@@ -6,6 +6,7 @@
 
 mod audit;
 mod money;
+mod planned;
 mod reference;
 mod rows;
 mod trade;

@@ -20,13 +20,17 @@ const STATUSES: [(Status, &str); 5] = [
     (Status::Canceled, "CNCL"),
 ];
 
-fn expect_types_and_statuses() -> Result<(), Fail> {
+fn expect_types() -> Result<(), Fail> {
     for (kind, name, side, is_market) in &TYPES {
         expect_text(kind.name(), name)?;
         expect_equal(kind.side(), *side)?;
         expect_equal(kind.is_sell(), *side == Side::Sell)?;
         expect_equal(kind.is_market(), *is_market)?;
     }
+    Ok(())
+}
+
+fn expect_statuses() -> Result<(), Fail> {
     for (status, code) in &STATUSES {
         expect_text(status.code(), code)?;
     }
@@ -57,10 +61,14 @@ const FAULTS: [(Fault, u8); 3] = [
     (Fault::Damaged(Condition::Summary), 92),
 ];
 
-fn expect_conditions_and_faults() -> Result<(), Fail> {
+fn expect_conditions() -> Result<(), Fail> {
     for (condition, word) in &CONDITIONS {
         expect_text(condition.output_word(), word)?;
     }
+    Ok(())
+}
+
+fn expect_faults() -> Result<(), Fail> {
     for (fault, number) in &FAULTS {
         expect_equal(fault.number(), *number)?;
     }
@@ -104,10 +112,14 @@ const LIMITS: [(Limit, &str); 7] = [
     (Limit::Moves, "moves"),
 ];
 
-fn expect_refusals_and_limits() -> Result<(), Fail> {
+fn expect_refusals() -> Result<(), Fail> {
     for (refusal, number) in &REFUSALS {
         expect_equal(refusal.number(), *number)?;
     }
+    Ok(())
+}
+
+fn expect_limits() -> Result<(), Fail> {
     for (limit, word) in &LIMITS {
         expect_text(limit.output_word(), word)?;
     }
@@ -117,7 +129,10 @@ fn expect_refusals_and_limits() -> Result<(), Fail> {
 /// Checks public names of brk_money: types and statuses of trades, conditions, faults and refusals.
 /// Fails if an answer differs, and if memory runs out.
 pub fn surface_of_brk_money() -> Result<(), Fail> {
-    expect_types_and_statuses()?;
-    expect_conditions_and_faults()?;
-    expect_refusals_and_limits()
+    expect_types()?;
+    expect_statuses()?;
+    expect_conditions()?;
+    expect_faults()?;
+    expect_refusals()?;
+    expect_limits()
 }

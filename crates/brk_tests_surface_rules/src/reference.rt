@@ -1,11 +1,13 @@
+use crate::planned::expect_planned;
 use brk_money::{Cents, Id, Planned, Qty, Rate, Stamp, TaxRate};
 use brk_ref::{
-    Account, Band, BatchName, Broker, Charge, Customer, CustomerTax, Executor, Kept, Key, Listing,
-    OldCashRow, Permission, RowNumber, Security, Tax, band_for, check_account, check_band,
-    check_broker, check_charge, check_customer, check_customer_tax, check_permission,
-    check_security, check_tax, overlaps, permitted, tax_sum,
+    Account, Band, Broker, Charge, Customer, CustomerTax, Executor, Kept, Key, Listing, OldCashRow,
+    Permission, RowNumber, Security, Tax, band_for, check_account, check_band, check_broker,
+    check_charge, check_customer, check_customer_tax, check_permission, check_security, check_tax,
+    overlaps, permitted, tax_sum,
 };
 use brk_tests_unit::expect::{expect_equal, expect_text};
+use brk_tests_unit::texts::parse_text;
 use std::alloc::Global;
 use std::slice;
 use std::test::Fail;
@@ -35,31 +37,35 @@ const CUSTOMER_TAX: [&[u8]; 2] = [b"10", b"1"];
 
 fn expect_broker(alloc: Global) -> Result<(), Fail> {
     let checked: Planned<Broker> = check_broker(alloc, &BROKER);
-    let broker = checked??;
+    let broker = expect_planned(checked)?;
     expect_equal(broker.id.get(), 1)?;
     expect_text(broker.name.as_str(), "Bo")
 }
 
 fn expect_customer(alloc: Global) -> Result<(), Fail> {
-    let customer: Customer = check_customer(alloc, &CUSTOMER)??;
+    let customer: Customer = expect_planned(check_customer(alloc, &CUSTOMER))?;
     expect_equal((customer.id.get(), customer.tier.get()), (10, 1))?;
     expect_text(customer.last_name.as_str(), "Lee")
 }
 
 fn expect_account(alloc: Global) -> Result<(), Fail> {
-    let account: Account = check_account(alloc, &ACCOUNT)??;
+    let account: Account = expect_planned(check_account(alloc, &ACCOUNT))?;
     expect_equal(
         (account.customer.get(), account.opening.get()),
         (10, 1_000_000),
     )
 }
 
-fn expect_security(alloc: Global) -> Result<(), Fail> {
-    let listing: Listing = check_security(alloc, &SECURITY)??;
+fn expect_fields_of_listing(listing: &Listing) -> Result<(), Fail> {
     let security: &Security = &listing.security;
     expect_equal(listing.price.get(), 1_000)?;
     expect_text(security.symbol.as_str(), "ABC")?;
     expect_text(security.sector.as_str(), "Tech")
+}
+
+fn expect_security(alloc: Global) -> Result<(), Fail> {
+    let listing = expect_planned(check_security(alloc, &SECURITY))?;
+    expect_fields_of_listing(&listing)
 }
 
 fn expect_charge() -> Result<(), Fail> {
@@ -72,13 +78,17 @@ fn expect_customer_tax() -> Result<(), Fail> {
     expect_equal((customer.get(), tax.get()), (10, 1))
 }
 
+fn expect_overlap(alloc: Global, bands: &[Band]) -> Result<(), Fail> {
+    let last = expect_planned(check_band(alloc, &LAST_BAND))?;
+    expect_equal(overlaps(bands, &last), true)
+}
+
 fn expect_bands(alloc: Global) -> Result<(), Fail> {
     let qty = Qty::new(100).unwrap();
-    let band: Band = check_band(alloc, &BAND)??;
+    let band: Band = expect_planned(check_band(alloc, &BAND))?;
     let bands = slice::from_ref(&band);
     expect_equal(band_for(bands, qty), Rate::new(100))?;
-    let last = check_band(alloc, &LAST_BAND)??;
-    expect_equal(overlaps(bands, &last), true)
+    expect_overlap(alloc, bands)
 }
 
 fn expect_tax_sum(
@@ -87,10 +97,9 @@ fn expect_tax_sum(
     second: &[&[u8]],
     wanted: Option<TaxRate>,
 ) -> Result<(), Fail> {
-    let first: Tax = check_tax(alloc, first)??;
-    let second = check_tax(alloc, second)??;
-    let taxes = vec![in alloc; first, second]?;
-    expect_equal(tax_sum(&taxes), wanted)
+    let first: Tax = expect_planned(check_tax(alloc, first))?;
+    let second = expect_planned(check_tax(alloc, second))?;
+    expect_equal(tax_sum(&[first, second]), wanted)
 }
 
 // The sum of 20 percent and 80.001 percent is above the greatest rate.
@@ -101,7 +110,7 @@ fn expect_tax_sums(alloc: Global) -> Result<(), Fail> {
 
 fn permission_with_tax_id(alloc: Global, tax_id: &[u8]) -> Result<Permission, Fail> {
     let fields: [&[u8]; 5] = [b"100", b"0000", tax_id, b"Lee", b"Ann"];
-    Ok(check_permission(alloc, &fields)??)
+    expect_planned(check_permission(alloc, &fields))
 }
 
 fn executor_with_tax_id(alloc: Global, tax_id: &[u8]) -> Result<Executor, Fail> {
@@ -118,25 +127,35 @@ fn executor_with_tax_id(alloc: Global, tax_id: &[u8]) -> Result<Executor, Fail> 
     })
 }
 
-fn is_permitted(alloc: Global, tax_id: &[u8], permissions: &[Permission]) -> Result<bool, Fail> {
-    let customer = check_customer(alloc, &CUSTOMER)??;
+fn expect_permitted(
+    alloc: Global,
+    customer: &Customer,
+    permissions: &[Permission],
+    tax_id: &[u8],
+    wanted: bool,
+) -> Result<(), Fail> {
     let executor = executor_with_tax_id(alloc, tax_id)?;
-    Ok(permitted(&customer, permissions, &executor))
+    expect_equal(permitted(customer, permissions, &executor), wanted)
 }
 
 // A customer needs no permission; an executor with another tax id needs one.
-fn expect_permitted_executors(alloc: Global) -> Result<(), Fail> {
-    expect_equal(is_permitted(alloc, b"T10", &[])?, true)?;
-    expect_equal(is_permitted(alloc, b"T11", &[])?, false)?;
+fn expect_executors_of_customer(alloc: Global, customer: &Customer) -> Result<(), Fail> {
+    expect_permitted(alloc, customer, &[], b"T10", true)?;
+    expect_permitted(alloc, customer, &[], b"T11", false)?;
     let permission = permission_with_tax_id(alloc, b"T11")?;
-    let permissions = slice::from_ref(&permission);
-    expect_equal(is_permitted(alloc, b"T11", permissions)?, true)
+    expect_permitted(alloc, customer, slice::from_ref(&permission), b"T11", true)
+}
+
+fn expect_permitted_executors(alloc: Global) -> Result<(), Fail> {
+    let customer = expect_planned(check_customer(alloc, &CUSTOMER))?;
+    expect_executors_of_customer(alloc, &customer)
 }
 
 fn key_of_first_row(alloc: Global) -> Result<Key, Fail> {
-    let n = RowNumber::new(1).unwrap();
-    let batch = BatchName::parse(alloc, b"A")?.ok_or("batch name")?;
-    Ok(Key { batch, n })
+    Ok(Key {
+        batch: parse_text(alloc, "A")?,
+        n: RowNumber::new(1).unwrap(),
+    })
 }
 
 fn kept_reply(alloc: Global) -> Result<Kept, Fail> {
@@ -174,16 +193,20 @@ fn expect_old_cash_row(alloc: Global) -> Result<(), Fail> {
     expect_text(row.name.as_str(), "Market-Buy 100 shares of Acme")
 }
 
-/// Checks public names of brk_ref: the records and the parsers of their fields, which executor is
-/// permitted, the rate of a quantity, bands that overlap, and the sum of tax rates. Fails if an
-/// answer differs, and if memory runs out.
-pub fn surface_of_brk_ref(alloc: Global) -> Result<(), Fail> {
+fn expect_parsed_records(alloc: Global) -> Result<(), Fail> {
     expect_broker(alloc)?;
     expect_customer(alloc)?;
     expect_account(alloc)?;
     expect_security(alloc)?;
     expect_charge()?;
-    expect_customer_tax()?;
+    expect_customer_tax()
+}
+
+/// Checks public names of brk_ref: the records and the parsers of their fields, which executor is
+/// permitted, the rate of a quantity, bands that overlap, and the sum of tax rates. Fails if an
+/// answer differs, and if memory runs out.
+pub fn surface_of_brk_ref(alloc: Global) -> Result<(), Fail> {
+    expect_parsed_records(alloc)?;
     expect_bands(alloc)?;
     expect_tax_sums(alloc)?;
     expect_permitted_executors(alloc)?;

@@ -1,3 +1,4 @@
+use crate::planned::expect_planned;
 use crate::rows::count_added_rows;
 use brk_lots::Position;
 use brk_money::{Id, Planned, Stamp, Status};
@@ -23,7 +24,7 @@ fn clock_reading() -> Stamp {
 
 // The plan has the reply `line`, and adds so many of the rows that are wanted.
 fn expect_plan(alloc: Global, planned: Planned<Plan>, line: &str, rows: usize) -> Result<(), Fail> {
-    let plan = planned??;
+    let plan = expect_planned(planned)?;
     expect_reply(alloc, &plan.reply, line)?;
     expect_equal(count_added_rows(&plan.changes), rows)
 }
@@ -47,7 +48,7 @@ fn expect_plan_of_new_record(alloc: Global, record: &Reference) -> Result<(), Fa
 }
 
 fn expect_reference_plan(alloc: Global) -> Result<(), Fail> {
-    let broker = Reference::Broker(check_broker(alloc, &[b"1", b"Bo"])??);
+    let broker = Reference::Broker(expect_planned(check_broker(alloc, &[b"1", b"Bo"]))?);
     expect_plan_of_new_record(alloc, &broker)
 }
 
@@ -71,20 +72,23 @@ fn expect_plan_of_update(alloc: Global, update: &Update) -> Result<(), Fail> {
 }
 
 fn expect_update_plan(alloc: Global) -> Result<(), Fail> {
-    let update = parse_executor_update(alloc, &[b"1"])??;
+    let update = expect_planned(parse_executor_update(alloc, &[b"1"]))?;
     expect_plan_of_update(alloc, &update)
 }
 
-fn expect_estimate(alloc: Global, planned: Planned<Reply>) -> Result<(), Fail> {
-    let reply = planned??;
+fn expect_estimate(alloc: Global, reply: &Reply) -> Result<(), Fail> {
     expect(matches!(reply, Reply::Estimated(_)), "no estimate")?;
-    expect_reply(alloc, &reply, "10.00,0.00,0.00,0.00,10.00,5.00,10000.00")
+    expect_reply(alloc, reply, "10.00,0.00,0.00,0.00,10.00,5.00,10000.00")
+}
+
+fn expect_planned_estimate(alloc: Global, planned: Planned<Reply>) -> Result<(), Fail> {
+    expect_estimate(alloc, &expect_planned(planned)?)
 }
 
 fn expect_estimate_plan(alloc: Global, order: &Order, found: &OrderPlanFacts) -> Result<(), Fail> {
     let position = Position::new(alloc);
     let mut end = position.from_end(false);
-    expect_estimate(alloc, plan_estimate(order, found, &mut end))
+    expect_planned_estimate(alloc, plan_estimate(order, found, &mut end))
 }
 
 // The plan adds the trade and its first status.
@@ -98,7 +102,7 @@ fn expect_order_plan(alloc: Global, order: &Order, found: &OrderPlanFacts) -> Re
 }
 
 fn expect_plans_of_purchase(alloc: Global, found: &OrderPlanFacts) -> Result<(), Fail> {
-    let order = parse_trade_order(alloc, &PURCHASE)??;
+    let order = expect_planned(parse_trade_order(alloc, &PURCHASE))?;
     expect_estimate_plan(alloc, &order, found)?;
     expect_order_plan(alloc, &order, found)
 }

@@ -1,7 +1,8 @@
 use brk_money::{Cents, Id, Stamp, Wide};
-use brk_ref::{LotChange, Name};
+use brk_ref::LotChange;
 use brk_tests_unit::expect::expect_text;
 use brk_tests_unit::result_plans::{SUBMITTED_CASH_PURCHASE, trade_row_of_case};
+use brk_tests_unit::texts::parse_text;
 use brk_view::{
     AccountStatus, AccountWorth, BrokerVolume, LotTouch, TouchedLots, View, broker_volume,
     lookup_account, lookup_ids, lookup_lots, lookup_symbol, position, recent, status, submitted,
@@ -30,8 +31,10 @@ pub fn format_records(alloc: Global, view: &View) -> Result<String, Fail> {
     Ok(told)
 }
 
-fn expect_records(alloc: Global, view: &View, wanted: &str) -> Result<(), Fail> {
-    let told = format_records(alloc, view)?;
+/// Checks that the records of a view (`format_records`) are the text `wanted`. Fails with both texts
+/// if not. Fails also if memory runs out.
+fn expect_records(alloc: Global, view: View, wanted: &str) -> Result<(), Fail> {
+    let told = format_records(alloc, &view)?;
     expect_text(told.as_str(), wanted)
 }
 
@@ -42,50 +45,46 @@ fn expect_worths(alloc: Global) -> Result<(), Fail> {
         assets: Wide::new(150_000),
     };
     let view: View = position(alloc, vec![in alloc; worth]?)?;
-    expect_records(alloc, &view, "100,8403.40,1500.00,\n")
-}
-
-fn name(alloc: Global, text: &[u8]) -> Result<Name, Fail> {
-    Ok(Name::parse(alloc, text)?.ok_or("name")?)
+    expect_records(alloc, view, "100,8403.40,1500.00,\n")
 }
 
 fn expect_volumes(alloc: Global) -> Result<(), Fail> {
     let volume = BrokerVolume {
         broker: Id::new(1).unwrap(),
-        name: name(alloc, b"Bo")?,
+        name: parse_text(alloc, "Bo")?,
         volume: Wide::new(30_000),
     };
     let view = broker_volume(alloc, vec![in alloc; volume]?)?;
-    expect_records(alloc, &view, "Bo,1,300.00,\n")
+    expect_records(alloc, view, "Bo,1,300.00,\n")
 }
 
 fn expect_submitted(alloc: Global) -> Result<(), Fail> {
     let trade = trade_row_of_case(alloc, &SUBMITTED_CASH_PURCHASE)?;
     let view = submitted(alloc, slice::from_ref(&trade))?;
-    expect_records(alloc, &view, "1,TMB,ABC,100,10.00,\n")
+    expect_records(alloc, view, "1,TMB,ABC,100,10.00,\n")
 }
 
 // The account has no trades.
 fn status_without_trades(alloc: Global) -> Result<AccountStatus, Fail> {
     Ok(AccountStatus {
-        last_name: name(alloc, b"Lee")?,
-        first_name: name(alloc, b"Ann")?,
-        broker: name(alloc, b"Bo")?,
+        last_name: parse_text(alloc, "Lee")?,
+        first_name: parse_text(alloc, "Ann")?,
+        broker: parse_text(alloc, "Bo")?,
         trades: Vec::new(alloc),
     })
 }
 
 fn expect_status(alloc: Global) -> Result<(), Fail> {
     let view = status(status_without_trades(alloc)?);
-    expect_records(alloc, &view, "Lee,Ann,Bo,\n")
+    expect_records(alloc, view, "Lee,Ann,Bo,\n")
 }
 
 fn expect_no_trades(alloc: Global) -> Result<(), Fail> {
     let view = recent(alloc, Vec::new(alloc), Vec::new(alloc))?;
-    expect_records(alloc, &view, "")?;
-    expect_records(alloc, &lookup_ids(Vec::new(alloc)), "")?;
-    expect_records(alloc, &lookup_account(Vec::new(alloc)), "")?;
-    expect_records(alloc, &lookup_symbol(Vec::new(alloc)), "")
+    expect_records(alloc, view, "")?;
+    expect_records(alloc, lookup_ids(Vec::new(alloc)), "")?;
+    expect_records(alloc, lookup_account(Vec::new(alloc)), "")?;
+    expect_records(alloc, lookup_symbol(Vec::new(alloc)), "")
 }
 
 fn expect_touched_lots(alloc: Global) -> Result<(), Fail> {
@@ -103,7 +102,7 @@ fn expect_touched_lots(alloc: Global) -> Result<(), Fail> {
         trade,
         changes: vec![in alloc; opened]?,
     };
-    expect_records(alloc, &lookup_lots(Some(lots)), "1,\n1,1,0,100,\n")
+    expect_records(alloc, lookup_lots(Some(lots)), "1,\n1,1,0,100,\n")
 }
 
 /// Checks the public names of brk_view: the nine views of typed rows, and the records of a view.

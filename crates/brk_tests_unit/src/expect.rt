@@ -1,5 +1,7 @@
 //! Checks of what the tested functions return.
 
+ghost use Rattle.std.specs.Prelude.{◌≡◌, IfOk, Some};
+
 use std::alloc::Global;
 use std::fmt::{Debug, Display};
 use std::test::Fail;
@@ -27,4 +29,14 @@ pub fn expect_text(told: &str, wanted: &str) -> Result<(), Fail> {
 pub fn expect_printed<T: Display>(alloc: Global, value: &T, wanted: &str) -> Result<(), Fail> {
     let printed = value.to_string(alloc)?;
     expect_text(printed.as_str(), wanted)
+}
+
+/// Returns the value. Fails with the text `what` if there is none.
+pub fn expect_some<T>(value: Option<T>, what: &str) -> Result<T, Fail>
+    ensures { IfOk result (λ found. value ≡ Some found) }
+{
+    match value {
+        Some(found) => Ok(found),
+        None => Err(Fail::new(what)),
+    }
 }

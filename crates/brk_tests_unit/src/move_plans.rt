@@ -1,3 +1,4 @@
+use crate::expect::expect_some;
 use crate::planned_reply::expect_planned_reply;
 use brk_money::{Cents, Day, Id, MoveId, Stamp};
 use brk_ref::MovedAmount;
@@ -24,10 +25,10 @@ fn expect_movement_reply(alloc: Global, case: &Case, wanted: &str) -> Result<(),
     let movement = Movement {
         direction: case.direction,
         account: Id::new(100).unwrap(),
-        amount: MovedAmount::new(case.cents).ok_or("amount")?,
+        amount: expect_some(MovedAmount::new(case.cents), "amount")?,
     };
     let balance = match case.balance {
-        Some(balance) => Some(Cents::new(balance).ok_or("balance")?),
+        Some(balance) => Some(expect_some(Cents::new(balance), "balance")?),
         None => None,
     };
     let found = MovementPlanFacts {
@@ -110,9 +111,9 @@ fn expect_one_day_settlement_reply(
     rule: Option<i32>,
     wanted: &str,
 ) -> Result<(), Fail> {
-    let day = Day::new(days).ok_or("day")?;
+    let day = expect_some(Day::new(days), "day")?;
     let set = match rule {
-        Some(set) => Some(Day::new(set).ok_or("day")?),
+        Some(set) => Some(expect_some(Day::new(set), "day")?),
         None => None,
     };
     let last = Stamp::new(1_709_251_200_015);

@@ -1,11 +1,12 @@
 //! Plans at limits that no desk of the tests reaches: the greatest volume and the last number of a
 //! trade. Also which price triggers which type of order.
 
-use crate::expect::expect;
+use crate::expect::{expect, expect_some};
 use crate::planned_reply::expect_planned_reply;
+use crate::texts::parse_text;
 use brk_lots::Position;
 use brk_money::{Id, Price, Qty, Rate, Stamp, TaxRate, TaxStatus, TradeType, Wide};
-use brk_ref::{ChargeAmount, LastTrade, RequestRow, Symbol, Volume};
+use brk_ref::{ChargeAmount, LastTrade, RequestRow, Volume};
 use brk_ref_orders::{parse_market_feed, parse_trade_order};
 use brk_trade::{
     OrderAccount, OrderPlanFacts, Quote, is_triggered_at_price, plan_feed, plan_order,
@@ -13,16 +14,11 @@ use brk_trade::{
 use std::alloc::Global;
 use std::test::Fail;
 
-/// Returns the symbol ABC. Fails only if memory runs out.
-pub(crate) fn symbol_abc(alloc: Global) -> Result<Symbol, Fail> {
-    Ok(Symbol::parse(alloc, b"ABC")?.ok_or("symbol")?)
-}
-
 // Returns the last trade of ABC, at 10.00, after which 100 more shares may be traded up to the
 // limit of the volume. Fails only if memory runs out.
 fn last_trade_100_shares_below_volume_limit(alloc: Global) -> Result<LastTrade, Fail> {
     Ok(LastTrade {
-        symbol: symbol_abc(alloc)?,
+        symbol: parse_text(alloc, "ABC")?,
         stamp: Stamp::nearest(1_709_251_200_018),
         price: Price::new(1_000).unwrap(),
         volume: Volume::new(99_999_999_999_999_900).unwrap(),
@@ -35,7 +31,7 @@ fn pending_limit_buy(alloc: Global) -> Result<RequestRow, Fail> {
     Ok(RequestRow {
         trade: Id::new(2).unwrap(),
         kind: TradeType::LimitBuy,
-        symbol: symbol_abc(alloc)?,
+        symbol: parse_text(alloc, "ABC")?,
         qty: Qty::new(10).unwrap(),
         bid: Price::new(1_000).unwrap(),
         broker: Id::new(1).unwrap(),
@@ -139,7 +135,7 @@ pub fn an_order_beyond_greatest_trade_id_is_refused(alloc: Global) -> Result<(),
 // price if not. Fails also if the price is not within its limits.
 fn expect_trigger(kind: TradeType, cents: u32, wanted: bool) -> Result<(), Fail> {
     let bid = Price::new(1_000).unwrap();
-    let price = Price::new(cents).ok_or("price")?;
+    let price = expect_some(Price::new(cents), "price")?;
     let told = is_triggered_at_price(kind, bid, price);
     expect(
         told == wanted,

@@ -1,5 +1,6 @@
+use crate::expect::expect_some;
 use crate::planned_reply::expect_planned_reply;
-use crate::plans::symbol_abc;
+use crate::texts::parse_text;
 use brk_lots::Position;
 use brk_money::{Cents, Id, MoveId, Planned, Price, Qty, Rate, Stamp, Status, TaxRate, TradeType};
 use brk_ref::{
@@ -48,8 +49,8 @@ pub const SUBMITTED_CASH_PURCHASE: Case = Case {
 /// charge of 5.00, a commission of 10.00, a tax of 0 and no price, which closes the oldest lots
 /// first. Fails if the quantity is not within its limits, and if memory runs out.
 pub fn trade_row_of_case(alloc: Global, case: &Case) -> Result<TradeRow, Fail> {
-    let qty = Qty::new(case.qty).ok_or("quantity")?;
-    let symbol = symbol_abc(alloc)?;
+    let qty = expect_some(Qty::new(case.qty), "quantity")?;
+    let symbol = parse_text(alloc, "ABC")?;
     let executor = String::from_str(alloc, "Ann Lee")?;
     Ok(TradeRow {
         id: Id::new(1).unwrap(),
@@ -74,7 +75,7 @@ pub fn trade_row_of_case(alloc: Global, case: &Case) -> Result<TradeRow, Fail> {
 // case. Fails if the balance is not within its limits, and if memory runs out.
 fn account_of_case(alloc: Global, case: &Case) -> Result<AccountRow, Fail> {
     let fields: [&[u8]; 6] = [b"100", b"10", b"1", b"Acc", b"1", b"10000.00"];
-    let balance = Cents::new(case.balance).ok_or("balance")?;
+    let balance = expect_some(Cents::new(case.balance), "balance")?;
     let account = check_account(alloc, &fields)??;
     Ok(AccountRow { account, balance })
 }
@@ -107,7 +108,7 @@ fn summary_of_case(alloc: Global, case: &Case) -> Result<Option<SummaryRow>, Fai
     };
     Ok(Some(SummaryRow {
         account: Id::new(100).unwrap(),
-        symbol: symbol_abc(alloc)?,
+        symbol: parse_text(alloc, "ABC")?,
         qty,
     }))
 }
@@ -117,7 +118,7 @@ fn summary_of_case(alloc: Global, case: &Case) -> Result<Option<SummaryRow>, Fai
 fn security_of_case(alloc: Global, case: &Case) -> Result<TradedSecurity, Fail> {
     let fields: [&[u8]; 5] = [b"ABC", b"Acme", b"NYSE", b"Tech", b"10.00"];
     let rate = match case.rate {
-        Some(rate) => Some(Rate::new(rate).ok_or("rate")?),
+        Some(rate) => Some(expect_some(Rate::new(rate), "rate")?),
         None => None,
     };
     let Listing { security, .. } = check_security(alloc, &fields)??;

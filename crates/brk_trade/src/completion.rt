@@ -236,26 +236,43 @@ fn append_cash(
     Ok(())
 }
 
-fn changes_with_cash_row(
-    alloc: Global,
+// Appends all but the changes of cash and of the last stamp.
+fn append_completion(
+    found: &ResultPlanFacts,
+    price: Price,
+    closed: &ClosedLots,
+    outcome: &ResultFigures,
+    changes: &mut Vec<Change>,
+) -> Result<(), AllocError>
+    ensures changes { OnOk result (changes.new.items ≡ changes.old.items
+        ++ spec.row_changes_of_completed_trade found.now.trade.id price outcome.now.completed
+        ++ flat_map (spec.row_changes_of_touched_lot found.now.trade.id) closed.now.touched.items
+        ++ flat_map (spec.row_changes_of_opened_lot found.now.trade) (option_to_list closed.now.opened)
+        ++ spec.summary_broker_settlement_changes found.now outcome.now) }
+{
+    let trade = &found.trade;
+    append_trade(trade.id, price, &outcome.completed, changes)?;
+    append_touches(trade.id, &closed.touched, changes)?;
+    append_opened_lot(trade, closed.opened, changes)?;
+    append_sums_with_settlement(found, outcome, changes)?;
+    Ok(())
+}
+
+fn append_result(
     found: &ResultPlanFacts,
     price: Price,
     closed: &ClosedLots,
     outcome: &ResultFigures,
     cash: Option<CashRow>,
-) -> Result<Vec<Change>, AllocError>
-    ensures changes { IfOk result (λ changes. changes.items ≡ spec.row_changes_of_result found.now price closed.now outcome.now cash) }
+    changes: &mut Vec<Change>,
+) -> Result<(), AllocError>
+    ensures changes { OnOk result (changes.new.items ≡ changes.old.items ++ spec.row_changes_of_result found.now price closed.now outcome.now cash) }
 {
-    let trade = &found.trade;
     let completed = &outcome.completed;
-    let mut changes = Vec::new(alloc);
-    append_trade(trade.id, price, completed, &mut changes)?;
-    append_touches(trade.id, &closed.touched, &mut changes)?;
-    append_opened_lot(trade, closed.opened, &mut changes)?;
-    append_sums_with_settlement(found, outcome, &mut changes)?;
-    append_cash(trade.account, completed, cash, &mut changes)?;
+    append_completion(found, price, closed, outcome, changes)?;
+    append_cash(found.trade.account, completed, cash, changes)?;
     changes.push(Change::SetLastStamp(completed.stamp))?;
-    Ok(changes)
+    Ok(())
 }
 
 pub(crate) fn result_changes(
@@ -268,6 +285,7 @@ pub(crate) fn result_changes(
     ensures changes { IfOk result (λ changes. AreResultChanges found.now price closed.now outcome.now changes.items) }
 {
     let cash = result_cash_row(alloc, found, &outcome.completed)?;
-    let changes = changes_with_cash_row(alloc, found, price, closed, outcome, cash)?;
+    let mut changes = Vec::new(alloc);
+    append_result(found, price, closed, outcome, cash, &mut changes)?;
     Ok(changes)
 }

@@ -6,6 +6,7 @@ ghost use Rattle.brk_lots.specs.Against.{is_trade_closing_lots};
 ghost use Rattle.brk_lots.specs.Sources.{AreLotsOfFaithfulSource};
 ghost use Rattle.brk_model.specs.Orders as model;
 ghost use Rattle.brk_model.specs.Tests.{first_refusal};
+ghost use Rattle.brk_money.specs.Moments as moments;
 ghost use Rattle.brk_money.specs.declared.fault.Fault.{Fault};
 ghost use Rattle.brk_ref.specs.Records.{abstract_executor};
 ghost use Rattle.brk_money.specs.declared.refusal.Limit.TheVariants as limit;
@@ -68,6 +69,14 @@ pub struct OrderPlanFacts {
 struct Placement {
     terms: Terms,
     broker: Id,
+}
+
+// The trade of an order that passes its checks.
+#[derive(Clone, Copy)]
+struct NewTrade {
+    id: Id,
+    stamp: Stamp,
+    placement: Placement,
 }
 
 fn bid_price_of_order(order: &Order, last: Price) -> Price
@@ -162,6 +171,34 @@ fn free_trade_id(last: Option<Id>) -> Option<Id>
         Some(last) => Id::new(last.get() + 1),
         None => Id::new(1),
     }
+}
+
+// Returns the placement of an order that passes all checks, with the id and the stamp of its trade,
+// or the first refusal.
+fn checked_trade(
+    order: &Order,
+    found: &OrderPlanFacts,
+    last: Option<Stamp>,
+    now: Stamp,
+) -> Result<NewTrade, Refusal>
+    ensures { MatchResult result
+        (λ trade. (first_refusal (order_checks found.now ++ free_trade_id_check found.now.last_trade ∷ later_stamp_check last now ∷ []) ≡ None)
+        × IsCheckedPlacement order.now found.now trade.placement × (trade.id ≡ spec.next_trade_id found.now.last_trade)
+        × (moments.stamp_after last now ≡ Some trade.stamp))
+        (λ refusal. first_refusal (order_checks found.now ++ free_trade_id_check found.now.last_trade ∷ later_stamp_check last now ∷ []) ≡ Some refusal) }
+{
+    let placement = checked_placement(order, found)?;
+    let Some(id) = free_trade_id(found.last_trade) else {
+        return Err(Refusal::Range(Limit::Trades));
+    };
+    let Some(stamp) = stamp_after(last, now) else {
+        return Err(Refusal::ClockEnd);
+    };
+    Ok(NewTrade {
+        id,
+        stamp,
+        placement,
+    })
 }
 
 fn first_status(kind: TradeType) -> Status
@@ -277,17 +314,17 @@ fn new_trade_changes(
 fn order_changes(
     alloc: Global,
     order: &Order,
-    placement: &Placement,
+    trade: &NewTrade,
     commission: Amount,
-    trade: Id,
-    stamp: Stamp,
 ) -> Result<Vec<Change>, AllocError>
-    requires { commission ≡ commission_from_terms placement.now.terms }
-    ensures { IfOk result (λ changes. AreOrderChanges order.now placement.now.terms placement.now.broker trade stamp changes.items) }
+    requires { commission ≡ commission_from_terms trade.now.placement.terms }
+    ensures { IfOk result (λ changes. AreOrderChanges order.now trade.now.placement.terms trade.now.placement.broker trade.now.id trade.now.stamp
+        changes.items) }
 {
+    let placement = &trade.placement;
     let terms = &placement.terms;
-    let row = new_trade_row(alloc, order, terms, commission, trade, stamp)?;
-    let request = new_request_row(order, placement, trade)?;
+    let row = new_trade_row(alloc, order, terms, commission, trade.id, trade.stamp)?;
+    let request = new_request_row(order, placement, trade.id)?;
     let changes = new_trade_changes(alloc, row, request)?;
     Ok(changes)
 }
@@ -327,21 +364,15 @@ pub fn plan_order<L: LotSource>(
     ensures rest { (ls : List Lot) → AreLotsOfFaithfulSource (L.reads_faithfully source.new) (L.remaining source.old) ls
         → (n : ℕ) × L.remaining source.new (drop n ls) }
 {
-    let placement = match checked_placement(order, found) {
-        Ok(placement) => placement,
+    let trade = match checked_trade(order, found, last, now) {
+        Ok(trade) => trade,
         Err(refusal) => return Ok(Err(refusal)),
     };
-    let Some(trade) = free_trade_id(found.last_trade) else {
-        return Ok(Err(Refusal::Range(Limit::Trades)));
-    };
-    let Some(stamp) = stamp_after(last, now) else {
-        return Ok(Err(Refusal::ClockEnd));
-    };
-    let estimate = estimate_order(source, &placement.terms)?;
-    let changes = order_changes(alloc, order, &placement, estimate.commission, trade, stamp)?;
+    let estimate = estimate_order(source, &trade.placement.terms)?;
+    let changes = order_changes(alloc, order, &trade, estimate.commission)?;
     let reply = Reply::Ordered(Ordered {
-        stamp,
-        trade,
+        stamp: trade.stamp,
+        trade: trade.id,
         status: first_status(order.order_type.kind()),
         estimate,
     });

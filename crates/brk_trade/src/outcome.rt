@@ -50,18 +50,26 @@ pub(crate) fn shares_held_before_trade(found: &ResultPlanFacts) -> i64
 }
 
 // Returns `None` above 9,999,999,999 shares, held or sold short.
+fn add_within_summary_limit(held: i64, traded: i64) -> Option<i64>
+    ensures { MatchOption result
+        (nat_lt greatest_summary_quantity (nat_abs (held +ℤ traded)) ≡ true)
+        (λ after. (after ≡ held +ℤ traded) × (nat_lt greatest_summary_quantity (nat_abs (held +ℤ traded)) ≡ false)) }
+{
+    let after = i128::from(held) + i128::from(traded);
+    if after.unsigned_abs() > u128::from(Schema::Third.greatest_summary_quantity()) {
+        return None;
+    }
+    Some(after as i64)
+}
+
 fn checked_summary(found: &ResultPlanFacts) -> Option<i64>
     ensures { MatchOption result
         (nat_lt greatest_summary_quantity (nat_abs (spec.shares_held_after_trade found.now)) ≡ true)
         (λ summary. (summary ≡ spec.shares_held_after_trade found.now)
         × (nat_lt greatest_summary_quantity (nat_abs (spec.shares_held_after_trade found.now)) ≡ false)) }
 {
-    let held = i128::from(shares_held_before_trade(found));
-    let after = held + i128::from(signed_qty(found.trade.kind.side(), found.trade.qty.get()));
-    if after.unsigned_abs() > u128::from(Schema::Third.greatest_summary_quantity()) {
-        return None;
-    }
-    Some(after as i64)
+    let traded = signed_qty(found.trade.kind.side(), found.trade.qty.get());
+    add_within_summary_limit(shares_held_before_trade(found), traded)
 }
 
 pub(crate) fn check_before_lots(found: &ResultPlanFacts) -> Result<RateAndSummary, Refusal>

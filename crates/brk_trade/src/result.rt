@@ -8,6 +8,7 @@ ghost use Rattle.brk_model.specs.Shares.{touches_of_existing_lots};
 ghost use Rattle.brk_money.specs.Moments as moments;
 ghost use Rattle.brk_money.specs.declared.fault.Fault.{Fault};
 ghost use Rattle.brk_trade.specs.Outcomes.{deal_of_trade_row};
+ghost use Rattle.brk_trade.specs.Results as spec;
 ghost use Rattle.brk_trade.specs.Results.{AreLotsBeforeTrade, ResultReadsAtMostOneLotMore, CompletesExistingTrade};
 ghost use Rattle.brk_trade.specs.Results.{IsResultRefusal, ClosesNoHeldShares, HasBrokerCountOutOfRange, stamp_or_clock_reading};
 
@@ -46,6 +47,15 @@ fn effect_of_trade_on_lots<L: LotSource>(
         close_lots(alloc, source, side, trade.qty, trade.id, price, stamp)
     } else {
         Ok(opening_effect(alloc, side, trade.qty, trade.id, price, stamp))
+    }
+}
+
+fn stamp_or_clock_reading(stamp: &Option<Stamp>, now: Stamp) -> Stamp
+    ensures { result ≡ spec.stamp_or_clock_reading stamp.now now }
+{
+    match stamp {
+        Some(stamp) => *stamp,
+        None => now,
     }
 }
 
@@ -103,10 +113,7 @@ pub fn plan_result<L: LotSource>(
     // The balance and the broker totals are checked before the clock. The stamp does not affect
     // their check.
     let moved = stamp_after(last, now);
-    let at = match moved {
-        Some(stamp) => stamp,
-        None => now,
-    };
+    let at = stamp_or_clock_reading(&moved, now);
     let closed = effect_of_trade_on_lots(alloc, source, found, price, at)?;
     let outcome = match check_after_lots(found, price, &known, &closed, trades, moved) {
         Ok(outcome) => outcome,

@@ -1,4 +1,6 @@
-pub mod Refusals
-pub mod Volumes
-pub mod Replacing
 pub mod Copies
+pub mod Mapped
+pub mod Refusals
+pub mod Replacing
+pub mod Triggered
+pub mod Volumes

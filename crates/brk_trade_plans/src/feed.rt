@@ -125,6 +125,22 @@ fn untriggered_requests(
     Ok(waiting)
 }
 
+// Appends the change to the last trade `last`, the submissions of the trades that its price
+// triggers, and their ids.
+fn append_market_trade(
+    last: &LastTrade,
+    requests: &[RequestRow],
+    changes: &mut Vec<Change>,
+    ids: &mut Vec<Id>,
+) -> Result<(), AllocError>
+    ensures changes { OnOk result (changes.new.items ≡ changes.old.items ++ SetLastTrade last.now
+        ∷ row_changes_of_submissions last.now.stamp (trades_triggered_at_price last.now.price requests.now)) }
+    ensures ids { OnOk result (ids.new.items ≡ ids.old.items ++ trades_triggered_at_price last.now.price requests.now) }
+{
+    changes.push(last_trade_change(last)?)?;
+    submit_triggered(last.stamp, last.price, requests, changes, ids)
+}
+
 // Returns the quote unchanged if the tick has another symbol.
 fn apply_tick_to_quote(
     alloc: Global,
@@ -153,8 +169,7 @@ fn apply_tick_to_quote(
         Ok(last) => last,
         Err(refusal) => return Ok(Err(refusal)),
     };
-    changes.push(last_trade_change(&last)?)?;
-    submit_triggered(stamp, tick.price, &requests, changes, ids)?;
+    append_market_trade(&last, &requests, changes, ids)?;
     let requests = untriggered_requests(alloc, tick.price, requests)?;
     Ok(Ok(Quote { last, requests }))
 }

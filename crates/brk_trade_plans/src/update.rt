@@ -1,7 +1,7 @@
 ghost use Rattle.std.specs.Prelude.{◌≡◌, ◌∷◌, ◌++◌, [], IfOk, OnErr, Err, MatchResult, MatchOption, Some, map};
 ghost use Rattle.brk_model.specs.Tests.{first_refusal};
 ghost use Rattle.brk_money.specs.declared.fault.Fault.TheVariants.{Memory};
-ghost use Rattle.brk_trade_rows.specs.Changes.{tables_after_change};
+ghost use Rattle.brk_trade_rows.specs.Changes.{tables_after_change, tables_with_last_stamp};
 ghost use Rattle.brk_trade_plans.specs.Reference.{later_stamp_check};
 ghost use Rattle.brk_trade_plans.specs.Update as spec;
 ghost use Rattle.brk_trade_plans.specs.Update.{IsUpdatePlan, tables_with_toggled_cash_text, tables_with_toggled_cash_type, count_of_updated_trades};
@@ -62,7 +62,8 @@ fn executor_changes(alloc: Global, trades: &[TradeRow]) -> Result<Vec<Change>, A
 {
     let mut changes = Vec::new(alloc);
     for trade in trades {
-        changes.push(executor_change(alloc, trade)?)?;
+        let change = executor_change(alloc, trade)?;
+        changes.push(change)?;
     }
     Ok(changes)
 }
@@ -86,13 +87,13 @@ fn cash_name_changes(
 {
     let mut changes = Vec::new(alloc);
     for one in paid {
-        changes.push(cash_name_change(alloc, security, one)?)?;
+        let change = cash_name_change(alloc, security, one)?;
+        changes.push(change)?;
     }
     Ok(changes)
 }
 
-// Returns the changes of the texts alone: `plan_update` appends that of the last stamp.
-fn update_changes(alloc: Global, found: &TextUpdate) -> Result<Vec<Change>, AllocError>
+fn text_changes(alloc: Global, found: &TextUpdate) -> Result<Vec<Change>, AllocError>
     ensures changes { IfOk result (λ changes. map tables_after_change changes.items ≡ table_updates_of_text_update found.now) }
 {
     match found {
@@ -100,6 +101,18 @@ fn update_changes(alloc: Global, found: &TextUpdate) -> Result<Vec<Change>, Allo
         TextUpdate::CashTypes(settled) => cash_type_changes(alloc, settled),
         TextUpdate::CashNames(security, paid) => cash_name_changes(alloc, security, paid),
     }
+}
+
+fn update_changes(
+    alloc: Global,
+    found: &TextUpdate,
+    stamp: Stamp,
+) -> Result<Vec<Change>, AllocError>
+    ensures changes { IfOk result (λ changes. map tables_after_change changes.items ≡ table_updates_of_text_update found.now ++ tables_with_last_stamp stamp ∷ []) }
+{
+    let mut changes = text_changes(alloc, found)?;
+    changes.push(Change::SetLastStamp(stamp))?;
+    Ok(changes)
 }
 
 fn count_updated(found: &TextUpdate) -> usize
@@ -138,8 +151,7 @@ pub fn plan_update(
     let Some(stamp) = stamp_after(last, now) else {
         return Ok(Err(Refusal::ClockEnd));
     };
-    let mut changes = update_changes(alloc, &found)?;
-    changes.push(Change::SetLastStamp(stamp))?;
+    let changes = update_changes(alloc, &found, stamp)?;
     Ok(Ok(Plan {
         changes,
         reply: Reply::Changed(stamp, count_updated(&found)),

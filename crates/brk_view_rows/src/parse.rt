@@ -11,7 +11,7 @@ ghost use Rattle.brk_view_rows.specs.Queries.{abstract_query};
 ghost use Rattle.brk_view_rows.specs.ViewNames.{text_of_view_name};
 
 use crate::parse_accounts::{
-    parse_account_status_query, parse_customer, parse_customer_by_tax_id, parse_recent,
+    parse_account_status_query, parse_customer_query, parse_recent, parse_tax_id_query,
 };
 use crate::parse_lookups::{
     parse_account_trades, parse_lots, parse_symbol_trades, parse_trades, parse_volume,
@@ -61,8 +61,8 @@ pub fn parse_for_view(
     match view {
         ViewName::Submitted => Ok(parse_submitted(arguments)),
         ViewName::Estimate => parse_estimate(alloc, arguments),
-        ViewName::Customer => Ok(parse_customer(arguments)),
-        ViewName::TaxId => parse_customer_by_tax_id(alloc, arguments),
+        ViewName::Customer => Ok(parse_customer_query(arguments)),
+        ViewName::TaxId => parse_tax_id_query(alloc, arguments),
         ViewName::Recent => Ok(parse_recent(arguments)),
         ViewName::Status => Ok(parse_account_status_query(arguments)),
         ViewName::Trades => parse_trades(alloc, arguments),

@@ -13,7 +13,7 @@ use brk_money::{Planned, Refusal};
 use brk_ref::{TaxId, parse_id};
 use std::alloc::{AllocError, Global};
 
-pub(crate) fn parse_customer(arguments: &[&[u8]]) -> Result<Query, Refusal>
+pub(crate) fn parse_customer_query(arguments: &[&[u8]]) -> Result<Query, Refusal>
     ensures { ParsesAs abstract_query result (read_single_argument (read_and_wrap PositionOf read_id) (texts_of_fields arguments.now)) }
 {
     let [customer] = arguments else {
@@ -25,10 +25,7 @@ pub(crate) fn parse_customer(arguments: &[&[u8]]) -> Result<Query, Refusal>
     Ok(Query::Position(customer))
 }
 
-pub(crate) fn parse_customer_by_tax_id(
-    alloc: Global,
-    arguments: &[&[u8]],
-) -> Planned<Query, AllocError>
+pub(crate) fn parse_tax_id_query(alloc: Global, arguments: &[&[u8]]) -> Planned<Query, AllocError>
     ensures read { IfOk result (λ read. ParsesAs abstract_query read
         (read_single_argument (read_and_wrap PositionOfTaxId read_tax_id) (texts_of_fields arguments.now))) }
 {

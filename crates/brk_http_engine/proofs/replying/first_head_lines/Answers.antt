@@ -1,8 +1,10 @@
-use Rattle.brk_http_engine.proofs.ReplyLemmas.{three_lines}
+use Rattle.std.proofs.Common.{◌∙◌, ap}
+use Rattle.std.proofs.lemmas.Result.{IfOk-weaker}
+use Rattle.brk_http_engine.specs.Lines.{first_head_lines}
+use Rattle.brk_http_engine.proofs.ReplyLemmas.{digits_and_phrase, head_text}
 use Rattle.brk_http_engine.proofs.replying.first_head_lines.Goals as goal
 
 pub returns : goal.returns
 returns c =
-    three_lines c.args.status.now c.args.len _ _ _ _ _ _ _ _ _ _ c.in_ok-first.ensures c.as_str-2.ensures.value c.in_ok-digits.ensures c.as_str.ensures.value
-    c.in_ok-third.ensures c.as_str-3.ensures.value
-    c.new-head.ensures.bytes c.in_ok-append_line.ensures c.in_ok-append_line-2.ensures c.in_ok-append_line-3.ensures
+    let status = digits_and_phrase c.args.code _ _ c.as_str.ensures c.status_phrase.ensures in
+    IfOk-weaker c.format.result _ _ (λ s e. e ∙ head_text _ _ c.args.len ∙ ap (λ status. first_head_lines status c.args.len) status) c.format.ensures.ok

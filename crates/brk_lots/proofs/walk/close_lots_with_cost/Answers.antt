@@ -1,4 +1,4 @@
-use Rattle.std.proofs.Common.{rules, arith, ◌≡◌, ℕ, drop, ◌+◌, ◌*◌, ◌-◌, ◌≤◌, min, unsigned_abs, true, false, List, [], ◌∷◌, ◌++◌, refl, sym, ap, ◌∙◌, subst, append-nil}
+use Rattle.std.proofs.Common.{rules, arith, ◌≡◌, ℕ, length, drop, ◌+◌, ◌*◌, ◌-◌, ◌≤◌, min, unsigned_abs, true, false, List, [], ◌∷◌, ◌++◌, refl, sym, ap, ◌∙◌, subst, append-nil}
 use Rattle.std.proofs.lemmas.List.{append_assoc, length-append, drop-drop}
 use Rattle.std.proofs.Math.Nat.{mul-le-mul_left}
 use Rattle.brk_model.specs.Limits.{greatest_price}
@@ -16,6 +16,10 @@ use Rattle.brk_lots.proofs.walk.close_lots_with_cost.Goals as goal
 -- the next of what is left
 drop_next : {X : Type 0} (n : ℕ) (xs : List X) (y : X) (ys : List X) → drop n xs ≡ y ∷ ys → ys ≡ drop (n + 1) xs
 drop_next n xs y ys e = sym (ap (drop 1) e) ∙ drop-drop 1 n xs
+
+-- lots that were requested are at most one more than those that are touched in all
+requested : (asked before : ℕ) (touched more all : List Touch) → asked ≤ before + length touched + 1 → touched ++ more ≡ all → asked ≤ before + length all + 1
+requested asked before touched more all h e = omega (arith, h, ap length e, length-append touched more)
 
 -- nothing more is met of what the walk ends with
 ended : (side : Side) (qty left cost : ℕ) (touched : List Touch) (all rest : List Lot) → closed_share_count side left rest ≡ 0
@@ -141,4 +145,71 @@ returns-then-are_same_side-clause-source g c =
           let n = c.loop-left.invariant.given (g.met.L.LotSource.faithful_before c.loop-left.source after c.next.ensures.leads given.0) ls given.1 in
           let m = (rw c.in-Some.is at c.in_ok-lot.ensures.given) given.0 (drop n.0 ls) n.1 in
           (n.0 + 1, subst (λ (l : List Lot). g.L.LotSource.remaining after l) (drop_next n.0 ls c.in-Some.lot m.0 m.1) m.2);
+    }
+
+pub returns-after-loop-left-clause-source : goal.returns-after-loop-left-clause-source
+returns-after-loop-left-clause-source g c =
+    let i = c.loop-left.invariant in
+    record {
+      leads = i.leads;
+      requests = omega (arith, i.few);
+      faulted = i.faulted;
+      fault = tt;
+      remaining = λ ls given. i.given given.0 ls given.1;
+    }
+
+pub returns-after-loop-left-clause-requests_at_most_touched : goal.returns-after-loop-left-clause-requests_at_most_touched
+returns-after-loop-left-clause-requests_at_most_touched g c ls given w =
+    let t = c.loop-left.invariant.taken in
+    let b = t.3 given.0 ls given.1 w in
+    requested _ _ t.0 _ _ (omega (arith, t.2)) b.4
+
+pub returns-then-are_same_side-clause-requests_at_most_touched : goal.returns-then-are_same_side-clause-requests_at_most_touched
+returns-then-are_same_side-clause-requests_at_most_touched g c ls given w =
+    let t = c.loop-left.invariant.taken in
+    let b = t.3 (g.met.L.LotSource.faithful_before c.loop-left.source c.next.new.self c.next.ensures.leads given.0) ls given.1 w in
+    requested _ _ t.0 _ _ (omega (arith, t.2, c.next.ensures.asked)) b.4
+
+pub returns-in_err-add-clause-requests_at_most_touched : goal.returns-in_err-add-clause-requests_at_most_touched
+returns-in_err-add-clause-requests_at_most_touched g c ls given w =
+    let t = c.loop-left.invariant.taken in
+    let b = t.3 (g.met.L.LotSource.faithful_before c.loop-left.source c.next.new.self c.next.ensures.leads given.0) ls given.1 w in
+    requested _ _ t.0 _ _ (omega (arith, t.2, c.next.ensures.asked)) b.4
+
+pub returns-in_err-lot-clause-requests_at_most_touched : goal.returns-in_err-lot-clause-requests_at_most_touched
+returns-in_err-lot-clause-requests_at_most_touched g c ls given w =
+    let t = c.loop-left.invariant.taken in
+    let b = t.3 (g.met.L.LotSource.faithful_before c.loop-left.source c.next.new.self c.next.ensures.leads given.0) ls given.1 w in
+    requested _ _ t.0 _ _ (omega (arith, t.2, c.next.ensures.asked)) b.4
+
+pub returns-in_default-clause-requests_at_most_touched : goal.returns-in_default-clause-requests_at_most_touched
+returns-in_default-clause-requests_at_most_touched g c ls given w =
+    let t = c.loop-left.invariant.taken in
+    let b = t.3 (g.met.L.LotSource.faithful_before c.loop-left.source c.next.new.self c.next.ensures.leads given.0) ls given.1 w in
+    requested _ _ t.0 _ _ (omega (arith, t.2, c.next.ensures.asked)) b.4
+
+pub returns-in_default-clause-taken : goal.returns-in_default-clause-taken
+returns-in_default-clause-taken g c =
+    let t = c.loop-left.invariant.taken in (
+      t.0,
+      t.1,
+      omega (arith, t.2, c.next.ensures.asked),
+      λ ls given w.
+          let b = t.3 (g.met.L.LotSource.faithful_before c.loop-left.source c.next.new.self c.next.ensures.leads given.0) ls given.1 w in
+          let m = (rw c.in_default.is at c.in_ok-lot.ensures.given) given.0 b.0 b.1 in
+          ended c.args.side c.args.qty c.loop-left.left c.loop-left.cost t.0 ls b.0 (rw m.0 refl) b.3 b.4 b.5,
+    )
+
+pub returns-in_default-clause-source : goal.returns-in_default-clause-source
+returns-in_default-clause-source g c =
+    let after = c.next.new.self in
+    record {
+      leads = g.met.L.LotSource.transitive c.args.source.now c.loop-left.source after c.loop-left.invariant.leads c.next.ensures.leads;
+      requests = search rules;
+      faulted = c.in_ok-lot.ensures.faulted ∙ c.loop-left.invariant.faulted;
+      fault = tt;
+      remaining = λ ls given.
+          let n = c.loop-left.invariant.given (g.met.L.LotSource.faithful_before c.loop-left.source after c.next.ensures.leads given.0) ls given.1 in
+          let m = (rw c.in_default.is at c.in_ok-lot.ensures.given) given.0 (drop n.0 ls) n.1 in
+          (n.0, subst (λ (l : List Lot). g.L.LotSource.remaining after l) (sym m.0) m.1);
     }

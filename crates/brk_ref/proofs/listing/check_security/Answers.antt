@@ -1,5 +1,9 @@
 use Rattle.std.proofs.Common.{arith}
 use Rattle.std.proofs.lemmas.Bool.{ltb-true, ltb-false}
+use Rattle.brk_model.specs.Parse.{read_listing}
+use Rattle.brk_ref.specs.Fields.{ParsesAs}
+use Rattle.brk_ref.specs.Records.{abstract_listing}
+use Rattle.brk_ref.proofs.FieldLists.{of_five}
 use Rattle.brk_ref.proofs.Texts.{not_security}
 use Rattle.brk_ref.proofs.listing.check_security.Goals as goal
 use Rattle.brk_ref.proofs.listing.check_security.Goals.{in_default-via-then-fields-lt5, in_default-via-else-fields-lt5+else-fields-lt6}
@@ -10,3 +14,7 @@ returns-in_default-clause-read c =
       | in_default-via-then-fields-lt5 w ↦ not_security c.args.fields.now (λ e. omega (arith, ltb-true, ltb-false))
       | in_default-via-else-fields-lt5+else-fields-lt6 w ↦ not_security c.args.fields.now (λ e. omega (arith, ltb-true, ltb-false))
     ]
+
+pub returns-clause-read : goal.returns-clause-read
+returns-clause-read c =
+    of_five (λ texts. ParsesAs abstract_listing c.in_ok-parse_listing.field-0 (read_listing texts)) c.args.fields.now c.in-len5.len_at_least c.in-len5.len_below c.in_ok-parse_listing.ensures
