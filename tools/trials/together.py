@@ -1,16 +1,15 @@
-"""Tries edits of a crate several at a time, for tools/trials/mutants: each check has at most one edit of each function.
+"""Tries edits of a crate several at a time, for tools/build/gate and tools/trials/mutants: each check has at most one edit of each function.
 
-A function is proved by its own body and the contracts of what it calls, so an edit of another function changes nothing in its proof. The
-controls of a crate are tried by one check from nothing, which has to succeed; what it proved is the base of the checks that follow. A check
-has up to MOST mutants, and a mutant is rejected if the prover reports an error in its function or in the answers of that function. A mutant
-for which it reports none is tried alone, as `rt must-fail` does it. One for which it reports only that a name is missing is not rejected: that
-says nothing of a contract.
+A function is proved by its own body and the contracts of what it calls, so an edit of another function changes nothing in its proof. So a
+check reads the crate with up to MOST edits, and proves the functions that they change and those that these call (`rattle check --only`). A
+mutant is rejected if the prover reports an error in its function or in the answers of that function. A mutant for which it reports none, or
+only that a name is missing, which says nothing of a contract, is tried alone, by the kit's `must_fail`, which proves the whole crate.
 
-It calls functions of the kit's rt (tried on kits 13b and 13f) over the libraries in the folders out/ of the tree, which `./brk` or `rt check` built."""
+It calls functions of the kit's rt (tried on kit 13b) over the libraries in the folders out/ of the tree, which `rt ci`, `./brk` or `rt check`
+built."""
 import inspect
 import os
 import re
-import shutil
 import sys
 import tempfile
 
@@ -20,7 +19,8 @@ sys.path.append(os.path.join(os.path.dirname(os.path.dirname(os.path.realpath(__
 from kit import load  # noqa: E402
 
 MOST = 12
-FUNCTION = re.compile(r'^ *(?:pub(?:\(\w+\))? )?(?:const )?fn (\w+)')
+FUNCTION = re.compile(r'^( *)(?:pub(?:\(\w+\))? )?(?:const )?fn (\w+)')
+IMPL = re.compile(r'^impl(?:<.*?>)? (?:.* for )?(\w+)')
 ERROR = re.compile(r'^(note: )?(?:\./)?((?:src|proofs|specs)/\S+?):(\d+):\d+: (.*)')
 # an error that says that a name is missing, and nothing of a contract
 NAME = re.compile(r'is not in scope|has no field|error\[')
@@ -47,9 +47,14 @@ def crates_of(rt, top):
 
 
 def function_at(text, place):
-    """The name of the function in which a place of a text is."""
+    """The name of the function in which a place of a text is, and with the type of its impl, as the prover asks for it."""
     lines = text[:place + 1].split('\n')
-    return next((found[1] for line in reversed(lines) for found in [FUNCTION.match(line)] if found), '')
+    for at in range(len(lines) - 1, -1, -1):
+        found = FUNCTION.match(lines[at])
+        if found:
+            impl = next((it[1] for line in reversed(lines[:at]) for it in [IMPL.match(line)] if it), '') if found[1] else ''
+            return found[2], f'{impl}::{found[2]}' if impl else found[2]
+    return '', ''
 
 
 class Edit:
@@ -57,10 +62,14 @@ class Edit:
 
     def __init__(self, folder, path):
         self.folder, self.path, self.name = folder, path, os.path.basename(path)[:-len('.edit')]
-        self.pairs, self.places = edits.pairs(path), set()
+        self.pairs, self.places, self.asked = edits.pairs(path), set(), set()
         for file, old, _ in self.pairs:
-            text = edits.read(f'{folder}/{file}')
-            self.places.add((file, function_at(text, max(text.find(old), 0)) if file.startswith('src/') else ''))
+            text, is_code = edits.read(f'{folder}/{file}'), file.startswith('src/')
+            function, asked = function_at(text, max(text.find(old), 0)) if is_code else ('', '')
+            self.places.add((file, function))
+            if asked:
+                module = file[len('src/'):-len('.rt')].replace('/', '::').removesuffix('::mod')
+                self.asked.add(asked if module == 'lib' else f'{module}::{asked}')
 
     def applied(self, texts):
         """The changed texts with this edit, or nothing if it cannot be applied to them."""
@@ -73,31 +82,30 @@ class Edit:
         return texts
 
     def error_in(self, errors):
-        """The first error in a function of this edit, in its source if there is one."""
+        """The first error in a function of this edit that says more than that a name is missing, or else the first."""
         functions = {function for _, function in self.places if function}
-        own = [it for it in errors if it[1] in functions]
-        # one that is of no name first, and of these one in the source
-        return min(own, key=lambda it: (bool(NAME.search(it[2])), not it[0].startswith('src/')))[2] if own else None
+        own = [error for function, error in errors if function in functions]
+        return next((it for it in own if not NAME.search(it)), own[0] if own else None)
 
 
 def errors_of(said, texts, folder):
-    """The errors of a check, each with its file and its function."""
+    """The errors of a check, each with its function, in their order."""
     found, lines = [], said.split('\n')
     for line, after in zip(lines, [*lines[1:], '']):
         it = ERROR.match(line)
         if it and (it[1] or 'error' in it[4]):
             if it[2].startswith('src/'):
                 text = texts.get(it[2]) or edits.read(f'{folder}/{it[2]}')
-                function = function_at(text, len('\n'.join(text.split('\n')[:int(it[3])])))
+                function = function_at(text, len('\n'.join(text.split('\n')[:int(it[3])])))[0]
             else:
                 function = it[2].split('/')[-2]
             # the prover breaks a long line before "has no field"
-            found.append((it[2], function, f'{line} {after.strip()}' if after.startswith('  has no ') else line))
+            found.append((function, f'{line} {after.strip()}' if after.startswith('  has no ') else line))
     return found
 
 
 def group_of(waiting):
-    """Takes mutants of different functions off the list. Returns them with the texts that they make together."""
+    """Takes edits of different functions off the list. Returns them with the texts that they make together."""
     group, texts, used, rest = [], {}, set(), []
     for edit in waiting:
         changed = edit.applied(texts) if len(group) < MOST and not edit.places & used else None
@@ -111,57 +119,69 @@ def group_of(waiting):
     return group, texts
 
 
+def check_functions(rt, crate, group, texts, kept):
+    """Checks the functions of a group of edits, and those that they call, in a copy of the crate with these texts, over what the folder `kept` has."""
+    asked = sorted({it for edit in group for it in edit.asked})
+    return rt.checked(crate, texts, [*FLAGS, *(word for it in asked for word in ('--only', it))], kept)
+
+
+def errors_of_edits(rt, crate, mutants):
+    """Yields each mutant with the error for which the prover rejects its function, or with nothing."""
+    waiting = list(mutants)
+    with tempfile.TemporaryDirectory(prefix='together-') as kept:
+        while waiting:
+            group, texts = group_of(waiting)
+            if not group:
+                yield from ((it, None) for it in waiting)
+                return
+            ran = check_functions(rt, crate, group, texts, kept)
+            is_answer = ran.returncode == 1 and re.search(r'^only=\d+ proved=\d+$', ran.stdout, re.MULTILINE)
+            errors = errors_of(ran.stdout, texts, crate.folder) if is_answer else []
+            for mutant in group:
+                error = mutant.error_in(errors)
+                yield mutant, None if error is None or NAME.search(error) or rt.unread(error, texts) else error
+
+
+def must_fail_all(rt):
+    """What the kit's function of that name does, by as few checks as there are mutants of one function, for its `rt ci`."""
+
+    def tried(crate, paths, flags):
+        label = f'must-fail {crate.name}/'
+        mutants = [Edit(crate.folder, it) for it in paths]
+        said = {mutant.path: (True, f'{label}{mutant.name}.edit: refused, as it must be: {error[:160]}')
+                for mutant, error in errors_of_edits(rt, crate, mutants) if error}
+        return [said.get(it) or rt.must_fail(crate, it, flags) for it in paths]
+
+    return tried
+
+
 class Trial:
     """The tries of the edits of a crate of a tree."""
 
     def __init__(self, rt, top, name):
         self.rt = rt
         self.crate = next(it for it in crates_of(rt, top) if it.name == name)
-        self.room = tempfile.mkdtemp(prefix='together-')
-        os.mkdir(f'{self.room}/base')
-
-    def close(self):
-        shutil.rmtree(self.room, ignore_errors=True)
 
     def edits_in(self, folder):
         names = sorted(it for it in os.listdir(folder) if it.endswith('.edit')) if os.path.isdir(folder) else []
         return [Edit(self.crate.folder, f'{folder}/{it}') for it in names]
 
     def accepts(self, controls):
-        """Whether the crate is proved from nothing with these controls, of which each changes another function. What was proved is kept."""
-        texts = {}
-        for control in controls:
-            texts = control.applied(texts)
-            if texts is None:
-                return False
-        return self.rt.checked(self.crate, texts, FLAGS, f'{self.room}/base').returncode == 0
-
-    def over_base(self, call):
-        """Calls a function with a copy of what was proved."""
-        over = f'{self.room}/over'
-        # a check replaces such a file, and changes none
-        shutil.copytree(f'{self.room}/base', over, copy_function=os.link)
-        try:
-            return call(over)
-        finally:
-            shutil.rmtree(over, ignore_errors=True)
-
-    def alone(self, mutant):
-        """Tries a mutant alone. Returns whether it was rejected, and what the kit says of it."""
-        kind, text = self.over_base(lambda over: self.rt.must_fail(self.crate, mutant.path, FLAGS, over))
-        # kit 13b says no more than whether it was rejected
-        return kind if isinstance(kind, bool) else kind in (self.rt.REFUSED, self.rt.AT_LIMIT), text
+        """Whether the functions of these controls, of which each changes another function, are proved."""
+        waiting = list(controls)
+        with tempfile.TemporaryDirectory(prefix='together-') as kept:
+            while waiting:
+                group, texts = group_of(waiting)
+                if not group or check_functions(self.rt, self.crate, group, texts, kept).returncode:
+                    return False
+        return True
 
     def results(self, mutants):
-        """Tries mutants several at a time. Yields each with whether it was rejected, and the error in its function."""
-        waiting = list(mutants)
-        while waiting:
-            group, texts = group_of(waiting)
-            if not group:
-                yield from ((it, False, 'it cannot be applied') for it in waiting)
-                return
-            ran = self.over_base(lambda over: self.rt.checked(self.crate, texts, FLAGS, over))
-            errors = errors_of(ran.stdout, texts, self.crate.folder) if 'logic=not-proved' in ran.stdout else []
-            for mutant in group:
-                error = mutant.error_in(errors)
-                yield (mutant, not NAME.search(error), error) if error else (mutant, *self.alone(mutant))
+        """Tries mutants several at a time. Yields each with whether it was rejected, and the error in its function or what the kit says of it."""
+        for mutant, error in errors_of_edits(self.rt, self.crate, mutants):
+            if error:
+                yield mutant, True, error
+                continue
+            kind, text = self.rt.must_fail(self.crate, mutant.path, FLAGS)
+            # kit 13b says no more than whether it was rejected
+            yield mutant, kind if isinstance(kind, bool) else kind in (self.rt.REFUSED, self.rt.AT_LIMIT), text

@@ -24,7 +24,7 @@ pub fn half_cents_round_up()
 /// Shows, for one bid each and the prices 0.01 below it, at it and 0.01 above it, that a stop-loss
 /// and a limit buy are triggered at the bid and below it, and a limit sell at the bid and above it.
 /// A trade of a market type is not triggered at its bid.
-pub fn trades_are_triggered_at_their_bid_price()
+pub fn triggers_depend_on_trade_type()
     ensures stop_loss { map (is_triggering_price StopLoss 950) (949 ∷ 950 ∷ 951 ∷ []) ≡ true ∷ true ∷ false ∷ [] }
     ensures limit_sell { map (is_triggering_price LimitSell 1050) (1049 ∷ 1050 ∷ 1051 ∷ []) ≡ false ∷ true ∷ true ∷ [] }
     ensures limit_buy { map (is_triggering_price LimitBuy 1000) (999 ∷ 1000 ∷ 1001 ∷ []) ≡ true ∷ true ∷ false ∷ [] }

@@ -10,7 +10,7 @@ use crate::create_later_tables;
 use brk_money::{CallFault, StoreFailed};
 use brk_tables_cash::numbering::add_numbered_cash_rows;
 use brk_tables_cash::ordering::sort_by_stamp;
-use brk_tables_cash::reading::all_cash_transactions;
+use brk_tables_cash::upgrade_reads::all_cash_transactions;
 use brk_tables_cash::upgrade_statements::{remove_cash_transactions, set_third_schema};
 use brk_trade_rows::Schema;
 use sqlite::{Alter, Transaction};

@@ -9,8 +9,8 @@
 pub mod moves;
 pub mod numbering;
 pub mod ordering;
-pub mod reading;
 pub mod rule;
+pub mod upgrade_reads;
 pub mod upgrade_statements;
 
 pub use moves::{

@@ -6,7 +6,7 @@ ghost use Rattle.brk_tables_schema.specs.Statements.{WritesDeskTables};
 ghost use Rattle.brk_tables_cash.specs.Upgrade.{tables_with_cash_rows_numbered_from, tables_with_numbered_cash_row};
 
 use crate::moves::add_cash_row;
-use crate::reading::account_id_of_trade;
+use crate::upgrade_reads::account_id_of_trade;
 use brk_money::{CallFault, MoveId};
 use brk_ref::{CashRow, OldCashRow};
 use sqlite::{Alter, Transaction};

@@ -1,16 +1,15 @@
-//! Reads of the holdings of accounts: of their lots (HOLDING), and of the number of shares of each
-//! security in total (HOLDING_SUMMARY).
+//! Reads of the lots of accounts (HOLDING).
 
-ghost use Rattle.std.specs.Prelude.{◌≡◌, ◌==◌, ◌&&◌, bytes_eq, map, pos, reverse};
+ghost use Rattle.std.specs.Prelude.{◌≡◌, ◌==◌, map, pos, reverse};
 ghost use Rattle.sqlite_value.specs.Value.{owned};
 ghost use Rattle.sqlite_value.specs.declared.value.Value.TheVariants.{Int};
-ghost use Rattle.brk_ref.specs.Rows.{abstract_holding_row, abstract_summary_row};
-ghost use Rattle.brk_tables_schema.specs.Desk.{Holdings, Summaries};
-ghost use Rattle.brk_tables_schema.specs.Statements.{ReadsFirstMatch, ReadsMatchingRows, ReadsDeskTables};
+ghost use Rattle.brk_ref.specs.Rows.{abstract_holding_row};
+ghost use Rattle.brk_tables_schema.specs.Desk.{Holdings};
+ghost use Rattle.brk_tables_schema.specs.Statements.{ReadsFirstMatch, ReadsDeskTables};
 ghost use Rattle.brk_tables_trading.specs.Pages.{position_lots_by_age, page_after_skipped};
 
 use brk_money::{CallFault, Id, StoreFailed};
-use brk_ref::{HoldingRow, SummaryRow, Symbol};
+use brk_ref::{HoldingRow, Symbol};
 use brk_tables_schema::calls::select_rows;
 use brk_tables_schema::record::{decode_first_row, decode_rows};
 use brk_tables_schema::values::{id_param, text_param};
@@ -106,39 +105,4 @@ pub fn all_lots<S: Alter>(
         &[],
     )?;
     decode_rows(alloc, &rows)
-}
-
-/// Returns the number of shares of each security that an account holds, sorted by symbol,
-/// ascending.
-pub fn account_summaries<S: Alter>(
-    tx: &mut Transaction<'_, S>,
-    alloc: Global,
-    account: Id,
-) -> Result<Vec<SummaryRow>, CallFault>
-    ensures same_reference { tx.new.conn.ghost_name ≡ tx.old.conn.ghost_name }
-    ensures step { ReadsMatchingRows S.Store tx.old tx.new result Summaries abstract_summary_row (λ r. r.account == account) }
-{
-    let rows = select_rows(
-        tx,
-        "SELECT HS_CA_ID, HS_S_SYMB, HS_QTY FROM HOLDING_SUMMARY WHERE HS_CA_ID = ?1 ORDER BY HS_CA_ID, HS_S_SYMB",
-        &[id_param(account)],
-    )?;
-    decode_rows(alloc, &rows)
-}
-
-/// Returns the number of shares of a security that an account holds, below 0 if sold short.
-pub fn position_summary<S: Alter>(
-    tx: &mut Transaction<'_, S>,
-    account: Id,
-    symbol: &Symbol,
-) -> Result<Option<SummaryRow>, StoreFailed>
-    ensures same_reference { tx.new.conn.ghost_name ≡ tx.old.conn.ghost_name }
-    ensures step { ReadsFirstMatch S.Store tx.old tx.new result Summaries abstract_summary_row (λ r. (r.account == account) && bytes_eq r.symbol symbol.now) }
-{
-    let rows = select_rows(
-        tx,
-        "SELECT HS_CA_ID, HS_S_SYMB, HS_QTY FROM HOLDING_SUMMARY WHERE HS_CA_ID = ?1 AND HS_S_SYMB = ?2 ORDER BY HS_CA_ID, HS_S_SYMB",
-        &[id_param(account), text_param(symbol.as_str())],
-    )?;
-    decode_first_row(&rows)
 }

@@ -26,14 +26,15 @@ pub mod updates;
 pub use balances::set_account_balance;
 pub use broker_totals::set_broker_totals;
 pub use history::add_trade_history_row;
-pub use holdings::{
-    account_summaries, all_lots, lot_by_trade, newest_lots, oldest_lots, position_summary,
-};
+pub use holdings::{all_lots, lot_by_trade, newest_lots, oldest_lots};
 pub use last_trades::{all_last_trades, last_trade_by_symbol, set_last_trade};
 pub use lots::{add_lot, add_lot_change, remove_lot, set_lot_quantity};
 pub use requests::{add_request, remove_request, requests_of_symbol};
 pub use settlements::add_settlement;
-pub use summaries::{add_holding_summary, remove_holding_summary, set_summary_quantity};
+pub use summaries::{
+    account_summaries, add_holding_summary, position_summary, remove_holding_summary,
+    set_summary_quantity,
+};
 pub use trade_lists::{history_of_trade, last_fifty_trades, last_ten_trades};
 pub use trades::{
     add_trade, all_trades, complete_trade, greatest_trade_id, set_trade_status, submitted_trades,

@@ -9,7 +9,7 @@ use Rattle.brk_model.specs.Tables.{Tables}
 use Rattle.brk_tables_cash.proofs.CashByTrade
 use Rattle.brk_tables_cash.proofs.CashByTrade.{plain}
 use Rattle.brk_tables_cash.proofs.Telling.{tells_cash}
-use Rattle.brk_tables_cash.proofs.reading.all_cash_transactions.Goals as goal
+use Rattle.brk_tables_cash.proofs.upgrade_reads.all_cash_transactions.Goals as goal
 
 pub select_rows-requires : goal.select_rows-requires
 select_rows-requires g c = record { no_returning_clause = plain }

@@ -12,7 +12,7 @@ use Rattle.brk_tables_schema.proofs.TradingBack.{summary_back, summary_is_back}
 use Rattle.brk_tables_trading.proofs.Holding.{tells_summary}
 use Rattle.brk_tables_trading.proofs.SummaryOf
 use Rattle.brk_tables_trading.proofs.SummaryOf.{plain}
-use Rattle.brk_tables_trading.proofs.holdings.position_summary.Goals as goal
+use Rattle.brk_tables_trading.proofs.summaries.position_summary.Goals as goal
 
 pub select_rows-requires : goal.select_rows-requires
 select_rows-requires g c = record { no_returning_clause = plain }

@@ -12,7 +12,7 @@ use Rattle.brk_tables_schema.proofs.Back.{number_in}
 use Rattle.brk_tables_cash.proofs.AccountOfTrade
 use Rattle.brk_tables_cash.proofs.AccountOfTrade.{plain}
 use Rattle.brk_tables_cash.proofs.Telling.{account_cells, tells_account}
-use Rattle.brk_tables_cash.proofs.reading.account_id_of_trade.Goals as goal
+use Rattle.brk_tables_cash.proofs.upgrade_reads.account_id_of_trade.Goals as goal
 
 pub select_rows-requires : goal.select_rows-requires
 select_rows-requires g c = record { no_returning_clause = plain }

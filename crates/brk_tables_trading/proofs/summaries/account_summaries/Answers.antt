@@ -10,7 +10,7 @@ use Rattle.brk_tables_schema.proofs.TradingBack.{summary_back, summary_is_back}
 use Rattle.brk_tables_trading.proofs.Holding.{tells_summaries}
 use Rattle.brk_tables_trading.proofs.SummariesOf
 use Rattle.brk_tables_trading.proofs.SummariesOf.{plain}
-use Rattle.brk_tables_trading.proofs.holdings.account_summaries.Goals as goal
+use Rattle.brk_tables_trading.proofs.summaries.account_summaries.Goals as goal
 
 pub select_rows-requires : goal.select_rows-requires
 select_rows-requires g c = record { no_returning_clause = plain }
