@@ -23,7 +23,7 @@ FUNCTION = re.compile(r'^( *)(?:pub(?:\(\w+\))? )?(?:const )?fn (\w+)')
 IMPL = re.compile(r'^impl(?:<.*?>)? (?:.* for )?(\w+)')
 ERROR = re.compile(r'^(note: )?(?:\./)?((?:src|proofs|specs)/\S+?):(\d+):\d+: (.*)')
 # an error that says that a name is missing, and nothing of a contract
-NAME = re.compile(r'is not in scope|has no field|error\[')
+NAME = re.compile(r'is not in scope|has no field|has no `|was not admitted|error\[')
 FLAGS = ['--jobs', '1']
 
 
