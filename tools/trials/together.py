@@ -20,7 +20,7 @@ from kit import load  # noqa: E402
 
 MOST = 12
 FUNCTION = re.compile(r'^( *)(?:pub(?:\(\w+\))? )?(?:const )?fn (\w+)')
-IMPL = re.compile(r'^impl(?:<.*?>)? (?:.* for )?(\w+)')
+IMPL = re.compile(r'^impl(?:<.*?>)? (?:(?:\w+::)*(\w+)(?:<.*>)? for )?(?:\w+::)*(\w+)')
 ERROR = re.compile(r'^(note: )?(?:\./)?((?:src|proofs|specs)/\S+?):(\d+):\d+: (.*)')
 # an error that says that a name is missing, and nothing of a contract
 NAME = re.compile(r'is not in scope|has no field|has no `|was not admitted|error\[')
@@ -47,13 +47,13 @@ def crates_of(rt, top):
 
 
 def function_at(text, place):
-    """The name of the function in which a place of a text is, and with the type of its impl, as the prover asks for it."""
+    """The name of the function in which a place of a text is, and its name with those of the type and the trait of its impl, as the prover has it."""
     lines = text[:place + 1].split('\n')
     for at in range(len(lines) - 1, -1, -1):
         found = FUNCTION.match(lines[at])
         if found:
-            impl = next((it[1] for line in reversed(lines[:at]) for it in [IMPL.match(line)] if it), '') if found[1] else ''
-            return found[2], f'{impl}::{found[2]}' if impl else found[2]
+            impl = next((it for line in reversed(lines[:at]) for it in [IMPL.match(line)] if it), None) if found[1] else None
+            return found[2], f'{impl[2]}{impl[1] or ""}::{found[2]}' if impl else found[2]
     return '', ''
 
 
@@ -69,7 +69,8 @@ class Edit:
             self.places.add((file, function))
             if asked:
                 module = file[len('src/'):-len('.rt')].replace('/', '::').removesuffix('::mod')
-                self.asked.add(asked if module == 'lib' else f'{module}::{asked}')
+                # the prover has a method below the module of its type, which need not be that of the file
+                self.asked.add(asked if '::' in asked or module == 'lib' else f'{module}::{asked}')
 
     def applied(self, texts):
         """The changed texts with this edit, or nothing if it cannot be applied to them."""
@@ -127,7 +128,7 @@ def check_functions(rt, crate, group, texts, kept):
 
 def errors_of_edits(rt, crate, mutants):
     """Yields each mutant with the error for which the prover rejects its function, or with nothing."""
-    waiting = list(mutants)
+    waiting, unread = list(mutants), getattr(rt, 'unread', lambda *_: False)
     with tempfile.TemporaryDirectory(prefix='together-') as kept:
         while waiting:
             group, texts = group_of(waiting)
@@ -139,7 +140,7 @@ def errors_of_edits(rt, crate, mutants):
             errors = errors_of(ran.stdout, texts, crate.folder) if is_answer else []
             for mutant in group:
                 error = mutant.error_in(errors)
-                yield mutant, None if error is None or NAME.search(error) or rt.unread(error, texts) else error
+                yield mutant, None if error is None or NAME.search(error) or unread(error, texts) else error
 
 
 def must_fail_all(rt):

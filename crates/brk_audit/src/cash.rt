@@ -127,6 +127,8 @@ fn figures_of_rows(alloc: Global, moves: &[CashRow]) -> Result<Vec<CashMoveFigur
     Ok(all)
 }
 
+// Compares the account, the stamp and the amount too; the caller has tested that the trade is a
+// completed cash trade.
 fn is_cash_move_of_trade(row: CashMoveFigures, trade: &TradeRow, tax_status: TaxStatus) -> bool
     ensures { IsTrue result
         ↔ ((row.account ≡ trade.now.account) × (row.trade ≡ trade.now.id) × (row.stamp ≡ trade.now.stamp)

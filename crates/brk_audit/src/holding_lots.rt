@@ -19,6 +19,7 @@ use brk_ref::{HoldingRow, TradeRow};
 use brk_trade_rows::Sheets;
 use std::alloc::{AllocError, Global};
 
+// Of `trade` only the account and the symbol are used.
 fn append_lots(held: &mut Vec<HoldingRow>, trade: &TradeRow, lots: &[Lot]) -> Result<(), AllocError>
     ensures { OnOk result (map abstract_holding_row held.new.items
         ≡ map abstract_holding_row held.old.items ++ map (holding_row_in_position_of_trade (abstract_trade_row trade.now)) (map abstract_lot lots.now)) }

@@ -1,5 +1,5 @@
-//! Sums, differences and products of amounts, in cents. A result that overflows is the fault
-//! `Store`.
+//! Sums, differences and products of amounts, in cents, and amounts as another type. A result that
+//! its type cannot hold is the fault `Store`.
 
 ghost use Rattle.std.specs.Prelude.{◌≡◌, ◌*ℤ◌, ◌+ℤ◌, ◌-ℤ◌, IfOk, pos};
 

@@ -29,7 +29,8 @@ pub fn copy_texts(alloc: Global, parts: &[&str]) -> Result<Vec<String>, AllocErr
     Ok(all)
 }
 
-/// Returns copies of the fields of a line; a line without a comma is one field.
+/// Returns copies of the parts of a line, cut at each comma; a quote has no meaning. A line without
+/// a comma is one field.
 pub fn comma_fields(alloc: Global, line: &str) -> Result<Vec<String>, AllocError>
     ensures { IfOk result (λ fields. bytes_of_texts fields ≡ spec.split_at_byte 44 line.now) }
 {

@@ -26,8 +26,9 @@ use brk_ref_orders::{Feed, Tick};
 use brk_trade_rows::Change;
 use std::alloc::{AllocError, Global};
 
-/// Returns true if the market price `price` triggers a pending trade (Market-Feed): a stop loss or
-/// a limit buy at its bid or below, a limit sell at its bid or above, a market type never.
+/// Returns true if the market price `price` triggers a pending trade with the requested price `bid`
+/// (Market-Feed): a stop loss or a limit buy at `bid` or below, a limit sell at `bid` or above, a
+/// market type never.
 pub fn is_triggered_at_price(kind: TradeType, bid: Price, price: Price) -> bool
     ensures { result ≡ definition.is_triggering_price kind bid price }
 {

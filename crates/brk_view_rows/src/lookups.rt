@@ -117,7 +117,7 @@ pub fn lookup_ids(trades: Vec<LookedUp>) -> View
 }
 
 /// Returns the view of an account's trades with a stamp between two stamps, both included
-/// (Trade-Lookup). The caller passes them as to `lookup_ids`.
+/// (Trade-Lookup). The caller passes the first 20 in the order of `sort_oldest_first`.
 pub fn lookup_account(trades: Vec<LookedUp>) -> View
     ensures records { records_of_view result ≡ flat_map records_of_looked_up_trade trades.items }
     ensures value { result ≡ views.Lookup trades }
@@ -131,7 +131,7 @@ pub fn lookup_account(trades: Vec<LookedUp>) -> View
 }
 
 /// Returns the view of a symbol's trades with a stamp between two stamps, both included
-/// (Trade-Lookup). The caller passes them as to `lookup_ids`.
+/// (Trade-Lookup). The caller passes the first 20 in the order of `sort_oldest_first`.
 pub fn lookup_symbol(trades: Vec<LookedUp>) -> View
     ensures records { records_of_view result ≡ flat_map records_of_looked_up_trade trades.items }
     ensures value { result ≡ views.Lookup trades }
