@@ -20,7 +20,7 @@ from kit import load  # noqa: E402
 
 MOST = 12
 FUNCTION = re.compile(r'^( *)(?:pub(?:\(\w+\))? )?(?:const )?fn (\w+)')
-IMPL = re.compile(r'^impl(?:<.*?>)? (?:(?:\w+::)*(\w+)(?:<.*>)? for )?(?:\w+::)*(\w+)')
+IMPL = re.compile(r'^impl(?:<(.*?)>)? (?:(?:\w+::)*(\w+)(?:<(.*)>)? for )?(?:\w+::)*(\w+)')
 ERROR = re.compile(r'^(note: )?(?:\./)?((?:src|proofs|specs)/\S+?):(\d+):\d+: (.*)')
 # an error that says that a name is missing, and nothing of a contract
 NAME = re.compile(r'is not in scope|has no field|has no `|was not admitted|error\[')
@@ -46,15 +46,24 @@ def crates_of(rt, top):
     return rt.rtlib.crates_below(top)
 
 
-def function_at(text, place):
-    """The name of the function in which a place of a text is, and its name with those of the type and the trait of its impl, as the prover has it."""
+def of_impl(impl):
+    """The name that the prover has for an impl: that of its type, of its trait, and of the types that it gives the trait."""
+    params, trait, given, kind = impl.groups()
+    own = {it.split(':')[0].strip() for it in (params or '').split(',')}
+    return ''.join([kind, trait or '', *(it.strip() for it in (given or '').split(',') if it.strip() not in own)])
+
+
+def function_at(file, text, place):
+    """The function in which a place of a file of src/ is, by the name by which the prover finds it: a method with its impl, which the prover has below
+    the module of its type, which need not be that of the file; any other with its module."""
     lines = text[:place + 1].split('\n')
     for at in range(len(lines) - 1, -1, -1):
         found = FUNCTION.match(lines[at])
         if found:
             impl = next((it for line in reversed(lines[:at]) for it in [IMPL.match(line)] if it), None) if found[1] else None
-            return found[2], f'{impl[2]}{impl[1] or ""}::{found[2]}' if impl else found[2]
-    return '', ''
+            module = file[len('src/'):-len('.rt')].replace('/', '::').removesuffix('::mod')
+            return '::'.join([*([of_impl(impl)] if impl else [module] * (module != 'lib')), found[2]])
+    return ''
 
 
 class Edit:
@@ -62,15 +71,13 @@ class Edit:
 
     def __init__(self, folder, path):
         self.folder, self.path, self.name = folder, path, os.path.basename(path)[:-len('.edit')]
-        self.pairs, self.places, self.asked = edits.pairs(path), set(), set()
+        self.pairs, self.functions, self.others = edits.pairs(path), set(), set()
         for file, old, _ in self.pairs:
-            text, is_code = edits.read(f'{folder}/{file}'), file.startswith('src/')
-            function, asked = function_at(text, max(text.find(old), 0)) if is_code else ('', '')
-            self.places.add((file, function))
-            if asked:
-                module = file[len('src/'):-len('.rt')].replace('/', '::').removesuffix('::mod')
-                # the prover has a method below the module of its type, which need not be that of the file
-                self.asked.add(asked if '::' in asked or module == 'lib' else f'{module}::{asked}')
+            text = edits.read(f'{folder}/{file}')
+            if file.startswith('src/'):
+                self.functions.add(function_at(file, text, max(text.find(old), 0)))
+            else:
+                self.others.add(file)
 
     def applied(self, texts):
         """The changed texts with this edit, or nothing if it cannot be applied to them."""
@@ -84,8 +91,7 @@ class Edit:
 
     def error_in(self, errors):
         """The first error in a function of this edit that says more than that a name is missing, or else the first."""
-        functions = {function for _, function in self.places if function}
-        own = [error for function, error in errors if function in functions]
+        own = [error for place, error in errors if any(place == it or it[:1].isupper() and place.endswith(f'::{it}') for it in self.functions)]
         return next((it for it in own if not NAME.search(it)), own[0] if own else None)
 
 
@@ -97,9 +103,10 @@ def errors_of(said, texts, folder):
         if it and (it[1] or 'error' in it[4]):
             if it[2].startswith('src/'):
                 text = texts.get(it[2]) or edits.read(f'{folder}/{it[2]}')
-                function = function_at(text, len('\n'.join(text.split('\n')[:int(it[3])])))[0]
+                function = function_at(it[2], text, len('\n'.join(text.split('\n')[:int(it[3])])))
             else:
-                function = it[2].split('/')[-2]
+                # the answers of a function are in a folder with its name
+                function = '::'.join(it[2].split('/')[1:-1])
             # the prover breaks a long line before "has no field"
             found.append((function, f'{line} {after.strip()}' if after.startswith('  has no ') else line))
     return found
@@ -109,38 +116,47 @@ def group_of(waiting):
     """Takes edits of different functions off the list. Returns them with the texts that they make together."""
     group, texts, used, rest = [], {}, set(), []
     for edit in waiting:
-        changed = edit.applied(texts) if len(group) < MOST and not edit.places & used else None
+        changes = edit.functions | edit.others
+        changed = edit.applied(texts) if len(group) < MOST and not changes & used else None
         if changed is None:
             rest.append(edit)
         else:
             group.append(edit)
             texts = changed
-            used |= edit.places
+            used |= changes
     waiting[:] = rest
     return group, texts
 
 
 def check_functions(rt, crate, group, texts, kept):
     """Checks the functions of a group of edits, and those that they call, in a copy of the crate with these texts, over what the folder `kept` has."""
-    asked = sorted({it for edit in group for it in edit.asked})
+    asked = sorted({it for edit in group for it in edit.functions if it})
     return rt.checked(crate, texts, [*FLAGS, *(word for it in asked for word in ('--only', it))], kept)
 
 
 def errors_of_edits(rt, crate, mutants):
-    """Yields each mutant with the error for which the prover rejects its function, or with nothing."""
-    waiting, unread = list(mutants), getattr(rt, 'unread', lambda *_: False)
+    """Yields each mutant with the error for which the prover rejects its function, or with nothing. One without an error is checked once more by itself: the
+    prover may not report the error of a function that calls another with an edit."""
+    waiting, again, unread = list(mutants), [], getattr(rt, 'unread', lambda *_: False)
     with tempfile.TemporaryDirectory(prefix='together-') as kept:
-        while waiting:
-            group, texts = group_of(waiting)
+        while waiting or again:
+            group, texts = group_of(waiting if waiting else [again.pop()])
             if not group:
+                # none of these can be applied
                 yield from ((it, None) for it in waiting)
-                return
+                waiting.clear()
+                continue
             ran = check_functions(rt, crate, group, texts, kept)
             is_answer = ran.returncode == 1 and re.search(r'^only=\d+ proved=\d+$', ran.stdout, re.MULTILINE)
             errors = errors_of(ran.stdout, texts, crate.folder) if is_answer else []
             for mutant in group:
                 error = mutant.error_in(errors)
-                yield mutant, None if error is None or NAME.search(error) or unread(error, texts) else error
+                if error and not NAME.search(error) and not unread(error, texts):
+                    yield mutant, error
+                elif len(group) > 1:
+                    again.append(mutant)
+                else:
+                    yield mutant, None
 
 
 def must_fail_all(rt):
