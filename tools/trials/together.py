@@ -112,18 +112,54 @@ def errors_of(said, texts, folder):
     return found
 
 
-def group_of(waiting):
-    """Takes edits of different functions off the list. Returns them with the texts that they make together."""
-    group, texts, used, rest = [], {}, set(), []
+def called_in(folder):
+    """The names of the functions of a crate, each with those of all that it leads to, by the names that its text calls."""
+    calls = {}
+    for at, _, names in os.walk(f'{folder}/src'):
+        for name in filter(lambda it: it.endswith('.rt'), names):
+            parts = re.split(r'\bfn (\w+)', edits.blank(edits.read(f'{at}/{name}')))
+            for function, text in zip(parts[1::2], parts[2::2]):
+                calls.setdefault(function, set()).update(re.findall(r'\b(\w+)\(', text))
+    for function in calls:
+        found, left = set(), [function]
+        while left:
+            new = {it for it in calls.get(left.pop(), ()) if it in calls} - found
+            found |= new
+            left += new
+        calls[function] = found
+    return calls
+
+
+def changed_by(edit):
+    return edit.functions | edit.others
+
+
+def are_different(edit, other):
+    """Whether two edits change different functions and files of proofs."""
+    return not changed_by(edit) & changed_by(other)
+
+
+def are_apart(calls):
+    """Whether two edits are different, and no function with one leads to one with the other."""
+
+    def names(edit):
+        return {it.split('::')[-1] for it in edit.functions}
+
+    return lambda edit, other: are_different(edit, other) and not any(
+        a in calls.get(b, ()) or b in calls.get(a, ()) for a in names(edit) for b in names(other))
+
+
+def group_of(waiting, may_join):
+    """Takes edits that may be tried together off the list. Returns them with the texts that they make."""
+    group, texts, rest = [], {}, []
     for edit in waiting:
-        changes = edit.functions | edit.others
-        changed = edit.applied(texts) if len(group) < MOST and not changes & used else None
+        is_one = len(group) < MOST and all(may_join(edit, other) for other in group)
+        changed = edit.applied(texts) if is_one else None
         if changed is None:
             rest.append(edit)
         else:
             group.append(edit)
             texts = changed
-            used |= changes
     waiting[:] = rest
     return group, texts
 
@@ -134,29 +170,34 @@ def check_functions(rt, crate, group, texts, kept):
     return rt.checked(crate, texts, [*FLAGS, *(word for it in asked for word in ('--only', it))], kept)
 
 
+def error_of_edit(rt, mutant, errors, texts):
+    error = mutant.error_in(errors)
+    return None if error is None or NAME.search(error) or getattr(rt, 'unread', lambda *_: False)(error, texts) else error
+
+
 def errors_of_edits(rt, crate, mutants):
-    """Yields each mutant with the error for which the prover rejects its function, or with nothing. One without an error is checked once more by itself: the
-    prover may not report the error of a function that calls another with an edit."""
-    waiting, again, unread = list(mutants), [], getattr(rt, 'unread', lambda *_: False)
+    """Yields each mutant with the error for which the prover rejects its function, or with nothing. The prover may report no error in a function that calls
+    one with an edit: such mutants are tried once more apart from each other, and at last each by itself."""
+    waiting = list(mutants)
     with tempfile.TemporaryDirectory(prefix='together-') as kept:
-        while waiting or again:
-            group, texts = group_of(waiting if waiting else [again.pop()])
-            if not group:
-                # none of these can be applied
-                yield from ((it, None) for it in waiting)
-                waiting.clear()
-                continue
-            ran = check_functions(rt, crate, group, texts, kept)
-            is_answer = ran.returncode == 1 and re.search(r'^only=\d+ proved=\d+$', ran.stdout, re.MULTILINE)
-            errors = errors_of(ran.stdout, texts, crate.folder) if is_answer else []
-            for mutant in group:
-                error = mutant.error_in(errors)
-                if error and not NAME.search(error) and not unread(error, texts):
-                    yield mutant, error
-                elif len(group) > 1:
-                    again.append(mutant)
-                else:
-                    yield mutant, None
+        for may_join in (are_different, are_apart(called_in(crate.folder)), lambda edit, other: False):
+            again = []
+            while waiting:
+                group, texts = group_of(waiting, may_join)
+                if not group:
+                    # none of these can be applied
+                    break
+                ran = check_functions(rt, crate, group, texts, kept)
+                is_answer = ran.returncode == 1 and re.search(r'^only=\d+ proved=\d+$', ran.stdout, re.MULTILINE)
+                errors = errors_of(ran.stdout, texts, crate.folder) if is_answer else []
+                for mutant in group:
+                    error = error_of_edit(rt, mutant, errors, texts)
+                    if error or len(group) == 1:
+                        yield mutant, error
+                    else:
+                        again.append(mutant)
+            yield from ((it, None) for it in waiting)
+            waiting = again
 
 
 def must_fail_all(rt):
@@ -188,7 +229,7 @@ class Trial:
         waiting = list(controls)
         with tempfile.TemporaryDirectory(prefix='together-') as kept:
             while waiting:
-                group, texts = group_of(waiting)
+                group, texts = group_of(waiting, are_different)
                 if not group or check_functions(self.rt, self.crate, group, texts, kept).returncode:
                     return False
         return True
