@@ -23,29 +23,35 @@ use std::io::{Read, Write};
 use std::net::{Shutdown, SocketAddr, TcpListener, TcpStream};
 use std::test::Fail;
 
-// The number of streams of a service. Each of them sends a query and then all rows of `ROWS`.
+// The number of streams of a service.
 const STREAMS: u32 = 3;
 
-// The number of replies 200 to a stream whose query and six rows are all accepted.
+// The number of rows of each stream. It sends a query and then the first rows of `ROWS`: those of
+// the stream before and two new ones.
+const ROWS_OF_STREAMS: [usize; 3] = [2, 4, 6];
+
+// The number of frames of the log after which it is copied into the database file, so that this file
+// is written within the day, and not only at its end.
+const FRAMES_OF_LOG: usize = 20;
+
+// The number of replies 200 to the last stream if its query and six rows are all accepted.
 const ALL_REPLIES: usize = 7;
 
-// The test fails a file at every thirteenth of its calls; tools/trials/try_faults fails each call of
-// the program.
-const STEP: u64 = 13;
-
-// A number of faults that is greater than that of each file in each service.
-const MOST_FAULTS: u64 = 2_000;
+// A number of calls that is greater than that of each file in each service.
+const MOST_CALLS: u64 = 10_000;
 
 type FileConnection = Connection<FileStore<Fuse<Memory>>>;
 
 type FileDesk = Store<FileStore<Fuse<Memory>>>;
 
-// The two files of a desk in memory: the bytes that they have while they are closed, how they fail
-// when they are opened next, and at all later times, and how often they were opened.
+// The two files of a desk in memory: the bytes that they have while they are closed, whether one of
+// them has failed, how they fail when they are opened next, and at all later times, and how often
+// they were opened.
 #[derive(Drop)]
 struct FailingFiles {
     alloc: Global,
     held: Cell<Held>,
+    has_failed: Cell<bool>,
     next: Cell<MachineCrash>,
     later: MachineCrash,
     openings: Cell<u64>,
@@ -58,6 +64,7 @@ impl FailingFiles {
         FailingFiles {
             alloc,
             held: Cell::new(held),
+            has_failed: Cell::new(false),
             next: Cell::new(stop),
             later,
             openings: Cell::new(0),
@@ -70,10 +77,12 @@ impl FailingFiles {
         held.into_inner()
     }
 
-    // Stores the bytes that the files have when they are opened next, or none if memory runs out.
+    // Stores the bytes that the files have when they are opened next, or none if memory runs out,
+    // and whether one of them has failed, or would at its next call.
     fn store_files(&self, files: Files<Fuse<Memory>>) {
-        if let Ok((held, _)) = files_after_crash(self.alloc, files, self.later.loses) {
+        if let Ok((held, has_failed)) = files_after_crash(self.alloc, files, self.later.loses) {
             self.held.set(held);
+            self.has_failed.set(has_failed || self.has_failed.get());
         }
     }
 
@@ -119,7 +128,9 @@ impl DeskFiles for FailingFiles {
         let stop = self.next.replace(self.later);
         self.openings.set(self.openings.get().saturating_add(1));
         let files = files_failing_at_crash(self.alloc, &held, stop)?;
-        match open_database(self.alloc, files, options_with_cached_pages(CACHED_PAGES)) {
+        let mut options = options_with_cached_pages(CACHED_PAGES);
+        options.checkpoint_frames = FRAMES_OF_LOG;
+        match open_database(self.alloc, files, options) {
             Ok(conn) => self.adopt(conn),
             Err(files) => {
                 self.store_files(files);
@@ -162,14 +173,24 @@ fn append_row_request(
     requests.push_str(request.as_str())
 }
 
-// Returns the text of a request for the last trades of account 100, and of one for each row of
-// `ROWS`, under the keys of the batch of `format_batch`. Fails only if memory runs out.
-fn requests_of_stream(alloc: Global) -> Result<String, AllocError> {
+// Returns the text of a request for the last trades of account 100, and of one for each of the
+// first `rows` rows of `ROWS`, at most six, under the keys of the batch of `format_batch`. Fails
+// only if memory runs out.
+fn requests_of_stream(alloc: Global, rows: usize) -> Result<String, AllocError> {
     let mut requests = format_post_request(alloc, "/ask/recent", "[\"100\"]")?;
     let mut number = 1u64;
-    for row in ROWS {
+    for row in &ROWS[..rows.min(6)] {
         append_row_request(alloc, &mut requests, number, row)?;
         number = number.saturating_add(1);
+    }
+    Ok(requests)
+}
+
+// Returns the text of the requests of each stream. Fails only if memory runs out.
+fn requests_of_streams(alloc: Global) -> Result<Vec<String>, AllocError> {
+    let mut requests = Vec::new(alloc);
+    for rows in ROWS_OF_STREAMS {
+        requests.push(requests_of_stream(alloc, rows)?)?;
     }
     Ok(requests)
 }
@@ -187,17 +208,17 @@ fn connect_peer_and_send(
     Ok(peer)
 }
 
-// Connects a peer to the listener for each stream, and sends `requests` on it. Fails if a peer
-// cannot connect, send or shut down, or if memory runs out.
+// Connects a peer to the listener for each stream, and sends its `requests`. Fails if a peer cannot
+// connect, send or shut down, or if memory runs out.
 fn connect_peers_and_send(
     rt: &HostRuntime,
     listener: &TcpListener,
-    requests: &str,
+    requests: &[String],
 ) -> Result<Vec<TcpStream>, Fail> {
     let address = listener.local_addr()?;
     let mut peers = Vec::new(rt.alloc());
-    for _ in 0..STREAMS {
-        peers.push(connect_peer_and_send(rt, address, requests)?)?;
+    for text in requests {
+        peers.push(connect_peer_and_send(rt, address, text.as_str())?)?;
     }
     Ok(peers)
 }
@@ -225,13 +246,13 @@ fn replies_200_of_peer(alloc: Global, mut peer: TcpStream) -> usize {
     count_replies_200(&told)
 }
 
-// Returns the number of replies 200 that each peer receives. Fails only if memory runs out.
-fn replies_200_of_peers(alloc: Global, peers: Vec<TcpStream>) -> Result<Vec<usize>, Fail> {
-    let mut counts = Vec::new(alloc);
-    for peer in peers {
-        counts.push(replies_200_of_peer(alloc, peer))?;
+// Returns the number of replies 200 that each peer receives.
+fn replies_200_of_peers(alloc: Global, peers: Vec<TcpStream>) -> [usize; 3] {
+    let mut counts = [0usize; 3];
+    for (count, peer) in counts.iter_mut().zip(peers) {
+        *count = replies_200_of_peer(alloc, peer);
     }
-    Ok(counts)
+    counts
 }
 
 fn serve_streams_on_files<S: Alter, F: DeskFiles<Desk = Store<S>>>(
@@ -275,22 +296,23 @@ fn open_files_and_serve(
     }
 }
 
-// What a service did: how it ended, the number of replies 200 of each stream, and how often its
-// files were opened.
-#[derive(Drop)]
+// What a service did: how it ended, the number of replies 200 of each stream, whether a file failed
+// or would at its next call, and whether the files were opened again.
+#[derive(Clone, Copy)]
 struct Served {
     end: ServiceEnd,
-    counts: Vec<usize>,
-    openings: u64,
+    counts: [usize; 3],
+    had_fault: bool,
+    was_reopened: bool,
 }
 
-// Opens the files and serves `STREAMS` streams on the desk in them. Returns what the service did, or
-// `None` if the files cannot be opened. Fails if a socket of this machine cannot be used, or if
-// memory runs out.
+// Opens the files and serves `STREAMS` streams on the desk in them, with the requests `requests`.
+// Returns what the service did, or `None` if the files cannot be opened. Fails if a socket of this
+// machine cannot be used, or if memory runs out.
 fn serve_rows(
     rt: &HostRuntime,
     files: &FailingFiles,
-    requests: &str,
+    requests: &[String],
 ) -> Result<Option<Served>, Fail> {
     let listener = TcpListener::bind(rt, ("127.0.0.1", 0))?;
     let peers = connect_peers_and_send(rt, &listener, requests)?;
@@ -299,38 +321,24 @@ fn serve_rows(
     };
     Ok(Some(Served {
         end,
-        openings: files.openings.get(),
-        counts: replies_200_of_peers(rt.alloc(), peers)?,
+        had_fault: files.has_failed.get(),
+        was_reopened: files.openings.get() > 1,
+        counts: replies_200_of_peers(rt.alloc(), peers),
     }))
 }
 
 impl Served {
-    fn ended_with_store_fault(&self) -> bool {
+    fn ended_with_store_fault(self) -> bool {
         matches!(self.end, ServiceEnd::StoreFault)
     }
 
-    fn is_done(&self) -> bool {
-        matches!(self.end, ServiceEnd::Done)
-    }
-
-    fn was_reopened(&self) -> bool {
-        self.openings > 1
-    }
-
-    // Returns true if the files were opened once, and the last stream has all replies.
-    fn had_no_fault(&self) -> bool {
-        self.is_done() && !self.was_reopened() && self.last_has_all_replies()
-    }
-
-    fn last_has_all_replies(&self) -> bool {
-        match self.counts.last() {
-            Some(count) => *count == ALL_REPLIES,
-            None => false,
-        }
+    // Returns true if the service ended without a fault, and its last stream has all replies.
+    fn is_complete(self) -> bool {
+        matches!(self.end, ServiceEnd::Done) && self.counts[2] == ALL_REPLIES
     }
 
     // Returns the greatest number of rows that a stream has replies 200 to.
-    fn accepted_rows(&self) -> usize {
+    fn accepted_rows(self) -> usize {
         let mut most = 0usize;
         for count in &self.counts {
             most = most.max(count.saturating_sub(1));
@@ -339,35 +347,42 @@ impl Served {
     }
 
     // Returns true if each stream after that of the fault has a reply.
-    fn has_replies_after_fault(&self) -> bool {
+    fn has_replies_after_fault(self) -> bool {
         let mut had_fault = false;
-        for count in &self.counts {
+        for (count, rows) in self.counts.iter().zip(ROWS_OF_STREAMS) {
             if had_fault && *count == 0 {
                 return false;
             }
-            had_fault = had_fault || *count < ALL_REPLIES;
+            had_fault = had_fault || *count <= rows;
         }
         true
     }
 }
 
-// Checks that each stream after that of the fault has a reply to its query, since its store is open:
-// the old one, or that of the files, opened again. Without a reply the service must have ended,
-// because the files that were opened again failed (`goes_on`). Otherwise the last stream after an
-// opening has all replies. Fails if not all of this is so.
-fn expect_streams_served(stop: MachineCrash, goes_on: bool, served: &Served) -> Result<(), Fail> {
-    let is_fault = served.ended_with_store_fault();
-    fail_unless(is_fault || served.is_done(), stop, "another ending")?;
-    let may_end = goes_on && served.was_reopened() && is_fault;
+// Checks that a service ended with the store fault after its files were opened again, if they failed
+// again (`goes_on`). Otherwise checks that each stream after that of the fault has a reply to its
+// query, since its store is open: the old one, or that of the files, opened again; and that the
+// service is complete if no file failed, or if the files were opened again. Fails if not all of this
+// is so.
+fn expect_streams_served(stop: MachineCrash, goes_on: bool, served: Served) -> Result<(), Fail> {
+    let is_ended = served.ended_with_store_fault();
+    if goes_on {
+        return fail_unless(
+            served.was_reopened && is_ended,
+            stop,
+            "failing files were served",
+        );
+    }
+    let may_end = is_ended && served.had_fault && !served.was_reopened;
     fail_unless(
-        may_end || served.has_replies_after_fault(),
+        served.is_complete() || may_end,
         stop,
-        "a closed store was served",
+        "an open file was not served",
     )?;
     fail_unless(
-        goes_on || !served.was_reopened() || served.last_has_all_replies(),
+        served.has_replies_after_fault(),
         stop,
-        "an opened file was not served",
+        "a closed store was served",
     )
 }
 
@@ -395,102 +410,92 @@ fn expect_batch_completed(
 #[derive(Clone, Copy)]
 struct Service<'a> {
     start: &'a Held,
-    requests: &'a str,
+    requests: &'a [String],
     tables: &'a [String],
 }
 
-// Serves `STREAMS` streams on the desk in the files, and checks what `expect_streams_served` checks.
-// Returns the number of rows that were accepted, and true if there was no fault. If the files cannot
-// be opened, nothing is served, and the number is 0. Fails also if a socket of this machine cannot
-// be used, or if memory runs out.
-fn expect_rows_served(
-    rt: &HostRuntime,
+// Checks what a service did (`expect_streams_served`) and the files after it
+// (`expect_batch_completed`). Checks nothing of a service whose files could not be opened at first.
+fn expect_recovered(
+    alloc: Global,
     stop: MachineCrash,
     goes_on: bool,
-    files: &FailingFiles,
-    requests: &str,
-) -> Result<(usize, bool), Fail> {
-    match serve_rows(rt, files, requests)? {
-        Some(served) => {
-            expect_streams_served(stop, goes_on, &served)?;
-            Ok((served.accepted_rows(), served.had_no_fault()))
-        }
-        None => Ok((0, false)),
-    }
+    served: Option<Served>,
+    held: &Held,
+    tables: &[String],
+) -> Result<(), Fail> {
+    let Some(served) = served else {
+        return Ok(());
+    };
+    expect_streams_served(stop, goes_on, served)?;
+    expect_batch_completed(alloc, stop, held, served.accepted_rows(), tables)
 }
 
-// Serves the rows on the desk in the files `start`, which fail by `stop` when they are opened
-// first. When they are opened again they fail at once if `goes_on` is true, and otherwise never.
-// Checks what `expect_rows_served` and `expect_batch_completed` check. Returns true if there was no
-// fault. Fails if not all of this is so, if a socket of this machine cannot be used, or if memory
-// runs out.
+// Serves `STREAMS` streams on the desk in the files `start`, which fail by `stop` when they are
+// opened first. When they are opened again they fail at once if `goes_on` is true, and otherwise
+// never. Checks the service (`expect_recovered`), and returns what it did, or `None` if the files
+// could not be opened at first. Fails if what it checks is not so, if a socket of this machine cannot
+// be used, or if memory runs out.
 fn expect_service_recovered(
     rt: &HostRuntime,
     stop: MachineCrash,
     goes_on: bool,
     service: Service<'_>,
-) -> Result<bool, Fail> {
+) -> Result<Option<Served>, Fail> {
     let later = MachineCrash {
         calls: if goes_on { 0 } else { u64::MAX },
         ..stop
     };
     let files = FailingFiles::new(rt.alloc(), service.start.copy()?, stop, later);
-    let (accepted, is_done) = expect_rows_served(rt, stop, goes_on, &files, service.requests)?;
+    let served = serve_rows(rt, &files, service.requests)?;
     let held = files.into_held();
-    expect_batch_completed(rt.alloc(), stop, &held, accepted, service.tables)?;
-    Ok(is_done)
+    expect_recovered(rt.alloc(), stop, goes_on, served, &held, service.tables)?;
+    Ok(served)
 }
 
-// Serves the rows with a failure of `stop` at every thirteenth call of its file in turn, from the
-// call `first` on, until a service has no fault, and checks each service
-// (`expect_service_recovered`).
+// Serves the streams with a failure of `stop` at each call of its file in turn, until a service has
+// no fault, and checks each service (`expect_service_recovered`). If its files were opened again,
+// serves the streams once more with files that then fail again. Checks that there is such a service.
 fn expect_each_service_recovered(
     rt: &HostRuntime,
     stop: MachineCrash,
-    first: u64,
-    goes_on: bool,
     service: Service<'_>,
 ) -> Result<(), Fail> {
-    for number in 0..MOST_FAULTS {
-        let calls = number.saturating_mul(STEP).saturating_add(first);
+    let mut was_reopened = false;
+    for calls in 0..MOST_CALLS {
         let stop = MachineCrash { calls, ..stop };
-        if expect_service_recovered(rt, stop, goes_on, service)? {
-            return Ok(());
+        let Some(served) = expect_service_recovered(rt, stop, false, service)? else {
+            continue;
+        };
+        if !served.had_fault {
+            return fail_unless(was_reopened, stop, "no file was opened again");
+        }
+        if served.was_reopened {
+            was_reopened = true;
+            expect_service_recovered(rt, stop, true, service)?;
         }
     }
     Err(Fail::new("always stopped"))
 }
 
-// Checks the service with each failure of `STOPS` (`expect_each_service_recovered`). The first call
-// that fails differs, and the files go on to fail for every second one.
-fn expect_service_recovered_from_each_stop(
-    rt: &HostRuntime,
-    service: Service<'_>,
-) -> Result<(), Fail> {
-    let (mut first, mut goes_on) = (0u64, false);
-    for stop in STOPS {
-        expect_each_service_recovered(rt, stop, first, goes_on, service)?;
-        first = first.saturating_add(1);
-        goes_on = !goes_on;
-    }
-    Ok(())
-}
-
-/// Checks the service of a desk in files that serves a query and all rows of `ROWS` on each of
-/// three streams, and whose log or database file fails at every thirteenth of its calls in turn, and
-/// at all later ones, with the bytes that were not synced lost or stored. A stream after the failure
-/// has a reply to its query: its store is open, or the files were opened again. If they can be, the
-/// last stream has a reply to each row; if they fail again at once, the service ends with
-/// `Open(Store)`. In both cases the desk in the files has all rows that were accepted, or one row
-/// more, and its batch can be completed.
+/// Checks the service of a desk in files that serves a query and the first rows of `ROWS` on each of
+/// three streams, two more than on the stream before, and whose log or database file fails at each
+/// of its calls in turn, and at all later ones, with the bytes that were not synced lost or stored.
+/// A stream after the failure has a reply to its query: its store is open, or the files were opened
+/// again. If they can be, the last stream has a reply to each row; if they fail again at once, the
+/// service ends with `Open(Store)`. Both happen with each of the files. The desk in the files then
+/// has all rows that were accepted, or one row more, and its batch can be completed.
 pub fn a_served_desk_recovers_from_disk_faults(rt: &HostRuntime) -> Result<(), Fail> {
-    let requests = requests_of_stream(rt.alloc())?;
+    let requests = requests_of_streams(rt.alloc())?;
     let tables = tables_after_each_row(rt.alloc())?;
     let start = files_with_reference_data(rt.alloc())?;
     let service = Service {
         start: &start,
-        requests: requests.as_str(),
+        requests: &requests,
         tables: &tables,
     };
-    expect_service_recovered_from_each_stop(rt, service)
+    for stop in STOPS {
+        expect_each_service_recovered(rt, stop, service)?;
+    }
+    Ok(())
 }
