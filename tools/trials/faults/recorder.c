@@ -6,7 +6,7 @@
 //                       r read (all on the file, the log and the folder), 1 write to standard output,
 //                       0 read of standard input
 //   FAULTS_COUNT=PATH   gets the number of counted calls at the end of the program
-//   FAULTS_RECORD=PATH  gets each creation, write, truncation, sync and line (see "struct entry")
+//   FAULTS_RECORD=PATH  gets each creation, write, truncation, sync, line and reply (see "struct entry")
 //   FAULTS_AT=N         at the Nth counted call happens what FAULTS_WHAT says:
 //     kill              the program is killed before the call
 //     torn              the program is killed after FAULTS_BYTES bytes of a write, or after another call
@@ -33,10 +33,10 @@
 enum { MAX_FD = 4096, RECORD_FD = 900 };
 enum what { NOTHING, KILL, TORN, FAIL, SHORT, IGNORE };
 
-// the record: an entry, and then "bytes" bytes of a write or a line
+// the record: an entry, and then "bytes" bytes of a write, a line or a reply
 struct __attribute__((packed)) entry {
-    char call; // o creation, w write, t truncation, s sync, 1 line
-    char kind; // d the file, w its log, f its folder, 1 standard output
+    char call; // o creation, w write, t truncation, s sync, x sync that failed, 1 line, n bytes to a socket
+    char kind; // d the file, w its log, f its folder, 1 standard output, n a socket
     int64_t number; // of the counted calls so far
     int64_t at;
     int64_t bytes;
@@ -210,10 +210,13 @@ static int synced(int fd, long call) {
     char kind = kind_of(fd);
     if (!kind) return (int)syscall(call, fd);
     enum what now = disturbance('s');
-    if (now == FAIL) return (int)failed(error_number);
+    if (now == FAIL) {
+        record('x', kind, 0, 0, NULL);
+        return (int)failed(error_number);
+    }
     if (now == IGNORE) return 0;
     int result = (int)syscall(call, fd);
-    if (!result) record('s', kind, 0, 0, NULL);
+    record(result ? 'x' : 's', kind, 0, 0, NULL);
     return (int)ended(result, now);
 }
 
@@ -241,6 +244,11 @@ ssize_t pread(int fd, void *data, size_t bytes, off_t at) {
     return ended(syscall(SYS_pread64, fd, data, bytes, at), now);
 }
 
+static int is_socket(int fd) {
+    struct stat found;
+    return record_fd >= 0 && !syscall(SYS_fstat, fd, &found) && S_ISSOCK(found.st_mode);
+}
+
 ssize_t write(int fd, const void *data, size_t bytes) {
     begin();
     enum what now = fd == 1 ? disturbance('1') : NOTHING;
@@ -248,7 +256,15 @@ ssize_t write(int fd, const void *data, size_t bytes) {
     if (now == SHORT && bytes > 1) bytes /= 2;
     ssize_t put = syscall(SYS_write, fd, data, bytes);
     if (put > 0 && fd == 1) record('1', '1', 0, put, data);
+    if (put > 0 && fd != 1 && is_socket(fd)) record('n', 'n', 0, put, data);
     return ended(put, now);
+}
+
+ssize_t send(int fd, const void *data, size_t bytes, int flags) {
+    begin();
+    ssize_t put = syscall(SYS_sendto, fd, data, bytes, flags, NULL, 0);
+    if (put > 0) record('n', 'n', 0, put, data);
+    return put;
 }
 
 ssize_t read(int fd, void *data, size_t bytes) {

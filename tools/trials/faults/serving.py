@@ -1,5 +1,6 @@
 """`brk serve` under recorder.c, and a client that sends the rows of a day to it under their keys, each on a stream of its own."""
 
+import errno
 import json
 import pathlib
 import signal
@@ -58,35 +59,62 @@ class Server:
         self.process.send_signal(signal.SIGKILL)
         self.process.wait()
 
-    def post(self, target, texts):
-        """The status and the body of the reply to a request, or None if there is no whole one."""
+    def asked(self, target, texts):
+        """A stream to the server, and the status and the body of its reply to a request: None and None without a whole one."""
         body = json.dumps(texts).encode()
         head = f"POST {target} HTTP/1.1\r\nConnection: close\r\nContent-Length: {len(body)}\r\n\r\n"
         stream = self.connected()
         if not stream:
-            return None
+            return None, None
         received = b""
-        with stream:
-            try:
-                stream.sendall(head.encode() + body)
-                while part := stream.recv(65536):
-                    received += part
-            except ConnectionError:
-                pass
-            except socket.timeout:
-                raise Wrong(f"{target}: no reply within {SECONDS} s") from None
-        return reply_of(received)
+        try:
+            stream.sendall(head.encode() + body)
+            while part := stream.recv(65536):
+                received += part
+        except ConnectionError:
+            pass
+        except socket.timeout:
+            raise Wrong(f"{target}: no reply within {SECONDS} s") from None
+        return stream, reply_of(received)
+
+    def post(self, target, texts):
+        """The status and the body of the reply to a request, or None if there is no whole one."""
+        stream, reply = self.asked(target, texts)
+        if stream:
+            stream.close()
+        return reply
 
     def reply(self, name, number, row):
-        return self.post(f"/rows/{name}/{number}", row.split(","))
+        return self.post(*request_of(name, number, row))
 
 
-def reply_of(received):
+def request_of(name, number, row):
+    """The target and the fields of the request that a row is."""
+    return f"/rows/{name}/{number}", row.split(",")
+
+
+def first_reply(received):
+    """The status and the body of the first reply of some bytes, or None if it is not whole, and the bytes after it."""
     head, found, body = received.partition(b"\r\n\r\n")
     length = [line.split(b":")[1] for line in head.split(b"\r\n") if line.startswith(b"Content-Length:")]
     if not found or not length or len(body) < int(length[0]):
-        return None
-    return int(head.split()[1]), json.loads(body)
+        return None, b""
+    return (int(head.split()[1]), json.loads(body[: int(length[0])])), body[int(length[0]) :]
+
+
+def reply_of(received):
+    return first_reply(received)[0]
+
+
+def rows_replied(job, output):
+    """How many rows the replies of a server acknowledge, whose client sends each row until it is answered."""
+    rows = 0
+    reply, output = first_reply(output)
+    while reply:
+        rows += reply[0] != 503
+        expect(reply[0] == 503 or as_first([line_of(rows, reply[1])]) == [job.lines[rows - 1]], f"row {rows}: {reply}")
+        reply, output = first_reply(output)
+    return rows
 
 
 def line_of(number, body):
@@ -193,11 +221,11 @@ class Client:
             expect(status in (200, 409) and as_first([line_of(number, body)]) == [wanted], f"row {number}: {status} {body}, and not {wanted}")
 
 
-def calls_of(program, job, **faults):
+def calls_of(program, job, letters=CALLS, **faults):
     """The calls of a server that answers all rows of a job, up to its end by a signal that it does not see. With `faults` one of them fails."""
     path = program.path("served.db")
     placed(path, job.before)
-    client = Client(program, job, path, 1 if faults else 0, calls=CALLS, record=path + ".record", **faults)
+    client = Client(program, job, path, 1 if faults else 0, calls=letters, record=path + ".record", **faults)
     try:
         client.send_all()
     except Wrong as error:
@@ -207,12 +235,54 @@ def calls_of(program, job, **faults):
     return states.recorded(path + ".record")
 
 
+def counted_calls(program, job, letter):
+    """How many of these calls a server makes until it has answered all rows of a job."""
+    return calls_of(program, job, letter)[-1].number
+
+
 def calls_of_reopening(rng, program, job, error):
     """The number of a sync whose failure closes the file of a server, and how many calls more the server makes then to answer all rows."""
     calls = calls_of(program, job)
     syncs = [call.number for call in calls if call.letter == "s"]
     at = rng.choice(syncs[len(syncs) // 2 :])
     return at, calls_of(program, job, at=at, what="fail", error=error)[-1].number - calls[-1].number
+
+
+def calls_with_reopening(rng, program, job):
+    """The calls of a server one of whose syncs fails, after its first reply: it opens its file again, and answers all rows."""
+    calls = calls_of(program, job)
+    replies = [at for at, call in enumerate(calls) if call.letter == "n"]
+    syncs = [call.number for call in calls[replies[0] : replies[-1]] if call.letter == "s"]
+    return calls_of(program, job, at=rng.choice(syncs), what="fail", error=errno.EIO)
+
+
+class Reopening:
+    """The places of a sync that failed, and of the first reply of the server after it opened its file again, which may be `again`."""
+
+    def __init__(self, calls):
+        self.calls = calls
+        self.failed = next(at for at, call in enumerate(calls) if call.letter == "x")
+        refused, self.answered = [at for at in range(self.failed, len(calls)) if calls[at].letter == "n"][:2]
+        if b" 503 " not in calls[refused].data or b" 503 " in calls[self.answered].data:
+            sys.exit("a server did not answer in the stream after a sync that failed")
+        self.is_again = b'"again"' in calls[self.answered].data
+
+    def next_place(self, after, letter, kind):
+        found = (at for at in range(after, self.answered) if (self.calls[at].letter, self.calls[at].kind) == (letter, kind))
+        return next(found, None)
+
+    @property
+    def copying(self):
+        """The calls from the first write to the file until its log is emptied, and that is synced; none if there was nothing to copy."""
+        first = self.next_place(self.failed, "w", "d")
+        if first is None:
+            return range(0)
+        return range(first, self.next_place(self.next_place(first, "w", "w"), "s", "w"))
+
+    def without(self, letters):
+        """The calls without those of some letters between the sync that failed and the reply."""
+        kept = range(self.failed + 1, self.answered)
+        return [call for at, call in enumerate(self.calls) if at not in kept or call.letter not in letters]
 
 
 def try_faults(sweep, title, job, cases):
