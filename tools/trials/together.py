@@ -103,7 +103,12 @@ def errors_of(said, texts, folder):
         if it and (it[1] or 'error' in it[4]):
             if it[2].startswith('src/'):
                 text = texts.get(it[2]) or edits.read(f'{folder}/{it[2]}')
-                function = function_at(it[2], text, len('\n'.join(text.split('\n')[:int(it[3])])))
+                own = text.split('\n')
+                at = int(it[3])
+                while own[at - 1].lstrip().startswith('#['):
+                    # the prover has a function with an attribute begin there
+                    at += 1
+                function = function_at(it[2], text, len('\n'.join(own[:at])))
             else:
                 # the answers of a function are in a folder with its name
                 function = '::'.join(it[2].split('/')[1:-1])
