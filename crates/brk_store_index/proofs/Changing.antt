@@ -21,16 +21,23 @@ use Rattle.brk_trade_rows.specs.declared.change.Change.TheVariants.{AddLotChange
 use Rattle.brk_trade_rows.specs.declared.change.Change.TheVariants.{SetBalance, SetBrokerTotals, SetExecutor, SetCashType, SetCashName, SetOneDaySettlementStart}
 use Rattle.brk_trade_rows.specs.declared.change.Change.TheVariants.{AddStoredReply, SetLastStamp}
 use Rattle.brk_ref.specs.declared.account.Account as typed_account
+use Rattle.brk_ref.specs.declared.band.Band as typed_band
 use Rattle.brk_ref.specs.declared.cash_row.CashRow as typed_cash
+use Rattle.brk_ref.specs.declared.charge.Charge as typed_charge
+use Rattle.brk_ref.specs.declared.customer.Customer as typed_customer
+use Rattle.brk_ref.specs.declared.customer_tax.CustomerTax as typed_customer_tax
 use Rattle.brk_ref.specs.declared.holding_row.HoldingRow as typed_lot
 use Rattle.brk_ref.specs.declared.last_trade.LastTrade as typed_last
 use Rattle.brk_ref.specs.declared.lot_change.LotChange as typed_change
+use Rattle.brk_ref.specs.declared.security.Security as typed_security
+use Rattle.brk_ref.specs.declared.tax.Tax as typed_tax
 use Rattle.brk_ref.specs.declared.trade_row.TradeRow as typed_trade
 use Rattle.brk_store_index.specs.declared.by_number.AgesByNumber.{AgesByNumber}
 use Rattle.brk_store_index.specs.declared.index.RowIndex.{RowIndex}
 use Rattle.brk_store_index.specs.declared.lots.LotGroups.{LotGroups}
 use Rattle.brk_store_index.specs.declared.lots.LotPlace.{LotPlace}
 use Rattle.brk_store_index.specs.declared.prices.LastPrices.{LastPrices}
+use Rattle.brk_store_index.specs.declared.terms.Terms.{Terms}
 use Rattle.brk_store_index.specs.declared.trades.TradeGroups.{TradeGroups}
 use Rattle.brk_store_index.specs.declared.trades.TradePlace.{TradePlace}
 use Rattle.brk_store_index.specs.Ages.{AreAgesOf, Has, InsertsAgeIf}
@@ -38,6 +45,7 @@ use Rattle.brk_store_index.specs.Groups.{ages_of_number, ages_of_position, is_sa
 use Rattle.brk_store_index.specs.Index.{Group, HasRowsOf, IsIndexOf, ages_at, members}
 use Rattle.brk_store_index.specs.Parts.{AreAccountsOf, AreCashRowsOf, AreLotChangesOf, IsIndexOfLots, IsIndexOfTrades, SetsStatus, age_of_cash_row, age_of_id, lot_places, place_of_lot, place_of_trade, trade_places}
 use Rattle.brk_store_index.specs.Prices.{AddsPrice, AreLastPricesOf, SetsPrice}
+use Rattle.brk_store_index.specs.Terms.{AreTermsOf}
 use Rattle.brk_store_index.proofs.Aged.{ages_mapped, ages_same, ages_with}
 use Rattle.brk_store_index.proofs.Elements.{behind, front, has_inserted, inserted_has}
 use Rattle.brk_store_index.proofs.Places.{ages_of_rows, follows_rows, places_mapped, places_same}
@@ -54,9 +62,10 @@ pub record PartsOf (index : RowIndex) (t : Tables) : Type 0 where
   pub changes : AreLotChangesOf index.changes t.holding_history
   pub cash : AreCashRowsOf index.cash t.moves
   pub prices : AreLastPricesOf index.prices t.last_trades
+  pub terms : AreTermsOf index.terms t
 
 pub whole : (index : RowIndex) (t : Tables) → PartsOf index t → IsIndexOf index t
-whole index t parts = record { groups = groups; lot_places = parts.lots.places; trade_places = parts.trades.places; last_prices = parts.prices }
+whole index t parts = record { groups = groups; lot_places = parts.lots.places; trade_places = parts.trades.places; last_prices = parts.prices; terms = parts.terms }
   where
     groups : (g : Group) → AreAgesOf (ages_at index g) (members g t)
     groups (Group.Position account symbol) =
@@ -105,12 +114,13 @@ parts_of index t is = record {
   changes = λ trade. is.groups (Group.LotChangesOfTrade trade);
   cash = λ account. is.groups (Group.CashRowsOfAccount account);
   prices = is.last_prices;
+  terms = is.terms;
 }
 
 pub index_of_rows : (index : RowIndex) (lots : List HoldingRow) (trades : List TradeRow) (accounts : List AccountRow) (changes : List HoldingHistoryRow) (cash : List CashRow) (last_trades : List LastTradeRow)
     → IsIndexOfLots index.lots lots → IsIndexOfTrades index.trades trades → AreAccountsOf index.accounts accounts → AreLotChangesOf index.changes changes
-    → AreCashRowsOf index.cash cash → AreLastPricesOf index.prices last_trades → (t : Tables) → HasRowsOf t lots trades accounts changes cash last_trades → IsIndexOf index t
-index_of_rows index lots trades accounts changes cash last_trades l r a c m p t has =
+    → AreCashRowsOf index.cash cash → AreLastPricesOf index.prices last_trades → (t : Tables) → HasRowsOf t lots trades accounts changes cash last_trades → AreTermsOf index.terms t → IsIndexOf index t
+index_of_rows index lots trades accounts changes cash last_trades l r a c m p t has terms =
     whole index t (record {
       lots = subst (IsIndexOfLots index.lots) (sym has.lot_rows) l;
       trades = subst (IsIndexOfTrades index.trades) (sym has.trade_rows) r;
@@ -118,6 +128,7 @@ index_of_rows index lots trades accounts changes cash last_trades l r a c m p t 
       changes = subst (AreLotChangesOf index.changes) (sym has.lot_changes) c;
       cash = subst (AreCashRowsOf index.cash) (sym has.cash_rows) m;
       prices = subst (AreLastPricesOf index.prices) (sym has.last_trade_rows) p;
+      terms = terms;
     })
 
 -- ---- lists with the same elements
@@ -167,27 +178,31 @@ module _ (old : RowIndex) (t : Tables) (is : IsIndexOf old t) where
 
   with_lots : (lots : LotGroups) (rows : List HoldingRow) → IsIndexOfLots lots rows → IsIndexOf (record old { lots = lots }) (record t { holdings = rows })
   with_lots lots rows l =
-      whole (record old { lots = lots }) (record t { holdings = rows }) (record { lots = l; trades = parts.trades; accounts = parts.accounts; changes = parts.changes; cash = parts.cash; prices = parts.prices })
+      whole (record old { lots = lots }) (record t { holdings = rows }) (record { lots = l; trades = parts.trades; accounts = parts.accounts; changes = parts.changes; cash = parts.cash; prices = parts.prices; terms = parts.terms })
 
   with_trades : (trades : TradeGroups) (rows : List TradeRow) → IsIndexOfTrades trades rows → IsIndexOf (record old { trades = trades }) (record t { trades = rows })
   with_trades trades rows r =
-      whole (record old { trades = trades }) (record t { trades = rows }) (record { lots = parts.lots; trades = r; accounts = parts.accounts; changes = parts.changes; cash = parts.cash; prices = parts.prices })
+      whole (record old { trades = trades }) (record t { trades = rows }) (record { lots = parts.lots; trades = r; accounts = parts.accounts; changes = parts.changes; cash = parts.cash; prices = parts.prices; terms = parts.terms })
 
   with_accounts : (accounts : AgesByNumber) (rows : List AccountRow) → AreAccountsOf accounts rows → IsIndexOf (record old { accounts = accounts }) (record t { accounts = rows })
   with_accounts accounts rows a =
-      whole (record old { accounts = accounts }) (record t { accounts = rows }) (record { lots = parts.lots; trades = parts.trades; accounts = a; changes = parts.changes; cash = parts.cash; prices = parts.prices })
+      whole (record old { accounts = accounts }) (record t { accounts = rows }) (record { lots = parts.lots; trades = parts.trades; accounts = a; changes = parts.changes; cash = parts.cash; prices = parts.prices; terms = parts.terms })
 
   with_changes : (changes : AgesByNumber) (rows : List HoldingHistoryRow) → AreLotChangesOf changes rows → IsIndexOf (record old { changes = changes }) (record t { holding_history = rows })
   with_changes changes rows c =
-      whole (record old { changes = changes }) (record t { holding_history = rows }) (record { lots = parts.lots; trades = parts.trades; accounts = parts.accounts; changes = c; cash = parts.cash; prices = parts.prices })
+      whole (record old { changes = changes }) (record t { holding_history = rows }) (record { lots = parts.lots; trades = parts.trades; accounts = parts.accounts; changes = c; cash = parts.cash; prices = parts.prices; terms = parts.terms })
 
   with_prices : (prices : LastPrices) (rows : List LastTradeRow) → AreLastPricesOf prices rows → IsIndexOf (record old { prices = prices }) (record t { last_trades = rows })
   with_prices prices rows p =
-      whole (record old { prices = prices }) (record t { last_trades = rows }) (record { lots = parts.lots; trades = parts.trades; accounts = parts.accounts; changes = parts.changes; cash = parts.cash; prices = p })
+      whole (record old { prices = prices }) (record t { last_trades = rows }) (record { lots = parts.lots; trades = parts.trades; accounts = parts.accounts; changes = parts.changes; cash = parts.cash; prices = p; terms = parts.terms })
 
   with_cash : (cash : AgesByNumber) (rows : List CashRow) → AreCashRowsOf cash rows → IsIndexOf (record old { cash = cash }) (record t { moves = rows })
   with_cash cash rows m =
-      whole (record old { cash = cash }) (record t { moves = rows }) (record { lots = parts.lots; trades = parts.trades; accounts = parts.accounts; changes = parts.changes; cash = m; prices = parts.prices })
+      whole (record old { cash = cash }) (record t { moves = rows }) (record { lots = parts.lots; trades = parts.trades; accounts = parts.accounts; changes = parts.changes; cash = m; prices = parts.prices; terms = parts.terms })
+
+  with_terms : (terms : Terms) (u : Tables) → HasRowsOf u t.holdings t.trades t.accounts t.holding_history t.moves t.last_trades → AreTermsOf terms u → IsIndexOf (record old { terms = terms }) u
+  with_terms terms u same new =
+      index_of_rows (record old { terms = terms }) t.holdings t.trades t.accounts t.holding_history t.moves t.last_trades parts.lots parts.trades parts.accounts parts.changes parts.cash parts.prices u same new
 
   pub lot_added : (lots : LotGroups) (row : typed_lot.HoldingRow) → ((rows : List HoldingRow) → IsIndexOfLots old.lots rows → IsIndexOfLots lots (abstract_holding_row row ∷ rows))
       → IsIndexOf (record old { lots = lots }) (tables_after_change (AddLot row) t)
@@ -380,6 +395,16 @@ pub cash_row_added_if : {E : Type 0} (old : RowIndex) (cash : AgesByNumber) (row
 cash_row_added_if old cash row (Ok v) h = λ t is. cash_row_added old t is cash row h
 cash_row_added_if old cash row (Err e) h = tt
 
+-- the tables of terms change, and no other
+abbrev pub ChangesTerms : (Tables → Tables) → Type 0
+ChangesTerms f = (t : Tables) → HasRowsOf (f t) t.holdings t.trades t.accounts t.holding_history t.moves t.last_trades
+
+pub terms_changed_if : {E : Type 0} (old : RowIndex) (terms : Terms) (f : Tables → Tables) → ChangesTerms f → (r : Result (Unit {0}) E)
+    → OnOk r ((t : Tables) → AreTermsOf old.terms t → AreTermsOf terms (f t))
+    → OnOk r ((t : Tables) → IsIndexOf old t → IsIndexOf (record old { terms = terms }) (f t))
+terms_changed_if old terms f same (Ok v) h = λ t is. with_terms old t is terms (f t) (same t) (h t is.terms)
+terms_changed_if old terms f same (Err e) h = tt
+
 pub of_change : {E : Type 0} (r : Result (Unit {0}) E) (old new : RowIndex) (change k : Change) → change ≡ k → OnOk r ((t : Tables) → IsIndexOf old t → IsIndexOf new (tables_after_change k t))
     → OnOk r ((t : Tables) → IsIndexOf old t → IsIndexOf new (tables_after_change change t))
 of_change r old new change k e h = subst (λ (c : Change). OnOk r ((t : Tables) → IsIndexOf old t → IsIndexOf new (tables_after_change c t))) (sym e) h
@@ -398,14 +423,20 @@ pub record IsOther (change : Change) : Type 0 where
   pub cash_row_added : (row : typed_cash.CashRow) → change ≡ AddMove row → ⊥
   pub last_trade_added : (l : typed_last.LastTrade) → change ≡ AddLastTrade l → ⊥
   pub last_trade_set : (l : typed_last.LastTrade) → change ≡ SetLastTrade l → ⊥
+  pub charge_added : (c : typed_charge.Charge) → change ≡ AddCharge c → ⊥
+  pub band_added : (b : typed_band.Band) → change ≡ AddBand b → ⊥
+  pub tax_added : (x : typed_tax.Tax) → change ≡ AddTaxRate x → ⊥
+  pub customer_tax_added : (x : typed_customer_tax.CustomerTax) → change ≡ AddCustomerTax x → ⊥
+  pub customer_added : (x : typed_customer.Customer) → change ≡ AddCustomer x → ⊥
+  pub security_added : (x : typed_security.Security) → change ≡ AddSecurity x → ⊥
 
--- tables of which the six tables of the index are equal
+-- tables of which the tables of the index are equal
 unread : (index : RowIndex) (t u : Tables) → u.holdings ≡ t.holdings → u.trades ≡ t.trades → u.accounts ≡ t.accounts → u.holding_history ≡ t.holding_history
-    → u.moves ≡ t.moves → u.last_trades ≡ t.last_trades → IsIndexOf index t → IsIndexOf index u
-unread index t u h r a c m l is =
+    → u.moves ≡ t.moves → u.last_trades ≡ t.last_trades → AreTermsOf index.terms u → IsIndexOf index t → IsIndexOf index u
+unread index t u h r a c m l terms is =
     let p = parts_of index t is in
     index_of_rows index t.holdings t.trades t.accounts t.holding_history t.moves t.last_trades p.lots p.trades p.accounts p.changes p.cash p.prices u
-    (record { lot_rows = h; trade_rows = r; account_rows = a; lot_changes = c; cash_rows = m; last_trade_rows = l })
+    (record { lot_rows = h; trade_rows = r; account_rows = a; lot_changes = c; cash_rows = m; last_trade_rows = l }) terms
 
 pub kept : (index : RowIndex) (change : Change) (t : Tables) → IsOther change → IsIndexOf index t → IsIndexOf index (tables_after_change change t)
 kept index (AddLot row) t other is = absurd (other.lot_added row refl)
@@ -418,30 +449,30 @@ kept index (AddLotChange c) t other is = absurd (other.lot_change_added c refl)
 kept index (AddMove row) t other is = absurd (other.cash_row_added row refl)
 kept index (AddLastTrade l) t other is = absurd (other.last_trade_added l refl)
 kept index (SetLastTrade l) t other is = absurd (other.last_trade_set l refl)
+kept index (AddCharge x) t other is = absurd (other.charge_added x refl)
+kept index (AddBand x) t other is = absurd (other.band_added x refl)
+kept index (AddTaxRate x) t other is = absurd (other.tax_added x refl)
+kept index (AddCustomerTax x) t other is = absurd (other.customer_tax_added x refl)
+kept index (AddCustomer x) t other is = absurd (other.customer_added x refl)
+kept index (AddSecurity x) t other is = absurd (other.security_added x refl)
 kept index (SetLot trade qty) t other is = quantity_set index t is trade qty
 kept index (SetExecutor trade name) t other is = executor_set index t is trade (string_bytes name)
 kept index (SetBalance account balance) t other is = balance_set index t is account balance
 kept index (SetCashName trade name) t other is = cash_name_set index t is trade (string_bytes name)
-kept index (AddBroker x) t other is = unread index t (tables_after_change (AddBroker x) t) refl refl refl refl refl refl is
-kept index (AddCustomer x) t other is = unread index t (tables_after_change (AddCustomer x) t) refl refl refl refl refl refl is
-kept index (AddPermission x) t other is = unread index t (tables_after_change (AddPermission x) t) refl refl refl refl refl refl is
-kept index (AddSecurity x) t other is = unread index t (tables_after_change (AddSecurity x) t) refl refl refl refl refl refl is
-kept index (AddCharge x) t other is = unread index t (tables_after_change (AddCharge x) t) refl refl refl refl refl refl is
-kept index (AddBand x) t other is = unread index t (tables_after_change (AddBand x) t) refl refl refl refl refl refl is
-kept index (AddTaxRate x) t other is = unread index t (tables_after_change (AddTaxRate x) t) refl refl refl refl refl refl is
-kept index (AddCustomerTax x) t other is = unread index t (tables_after_change (AddCustomerTax x) t) refl refl refl refl refl refl is
-kept index (AddHistory x) t other is = unread index t (tables_after_change (AddHistory x) t) refl refl refl refl refl refl is
-kept index (AddRequest x) t other is = unread index t (tables_after_change (AddRequest x) t) refl refl refl refl refl refl is
-kept index (RemoveRequest x) t other is = unread index t (tables_after_change (RemoveRequest x) t) refl refl refl refl refl refl is
-kept index (AddSummary x) t other is = unread index t (tables_after_change (AddSummary x) t) refl refl refl refl refl refl is
-kept index (SetSummary x) t other is = unread index t (tables_after_change (SetSummary x) t) refl refl refl refl refl refl is
-kept index (RemoveSummary x y) t other is = unread index t (tables_after_change (RemoveSummary x y) t) refl refl refl refl refl refl is
-kept index (AddSettlement x) t other is = unread index t (tables_after_change (AddSettlement x) t) refl refl refl refl refl refl is
-kept index (SetBrokerTotals x y z) t other is = unread index t (tables_after_change (SetBrokerTotals x y z) t) refl refl refl refl refl refl is
-kept index (SetCashType x y) t other is = unread index t (tables_after_change (SetCashType x y) t) refl refl refl refl refl refl is
-kept index (SetOneDaySettlementStart x) t other is = unread index t (tables_after_change (SetOneDaySettlementStart x) t) refl refl refl refl refl refl is
-kept index (AddStoredReply x) t other is = unread index t (tables_after_change (AddStoredReply x) t) refl refl refl refl refl refl is
-kept index (SetLastStamp x) t other is = unread index t (tables_after_change (SetLastStamp x) t) refl refl refl refl refl refl is
+kept index (AddBroker x) t other is = unread index t (tables_after_change (AddBroker x) t) refl refl refl refl refl refl is.terms is
+kept index (AddPermission x) t other is = unread index t (tables_after_change (AddPermission x) t) refl refl refl refl refl refl is.terms is
+kept index (AddHistory x) t other is = unread index t (tables_after_change (AddHistory x) t) refl refl refl refl refl refl is.terms is
+kept index (AddRequest x) t other is = unread index t (tables_after_change (AddRequest x) t) refl refl refl refl refl refl is.terms is
+kept index (RemoveRequest x) t other is = unread index t (tables_after_change (RemoveRequest x) t) refl refl refl refl refl refl is.terms is
+kept index (AddSummary x) t other is = unread index t (tables_after_change (AddSummary x) t) refl refl refl refl refl refl is.terms is
+kept index (SetSummary x) t other is = unread index t (tables_after_change (SetSummary x) t) refl refl refl refl refl refl is.terms is
+kept index (RemoveSummary x y) t other is = unread index t (tables_after_change (RemoveSummary x y) t) refl refl refl refl refl refl is.terms is
+kept index (AddSettlement x) t other is = unread index t (tables_after_change (AddSettlement x) t) refl refl refl refl refl refl is.terms is
+kept index (SetBrokerTotals x y z) t other is = unread index t (tables_after_change (SetBrokerTotals x y z) t) refl refl refl refl refl refl is.terms is
+kept index (SetCashType x y) t other is = unread index t (tables_after_change (SetCashType x y) t) refl refl refl refl refl refl is.terms is
+kept index (SetOneDaySettlementStart x) t other is = unread index t (tables_after_change (SetOneDaySettlementStart x) t) refl refl refl refl refl refl is.terms is
+kept index (AddStoredReply x) t other is = unread index t (tables_after_change (AddStoredReply x) t) refl refl refl refl refl refl is.terms is
+kept index (SetLastStamp x) t other is = unread index t (tables_after_change (SetLastStamp x) t) refl refl refl refl refl refl is.terms is
 
 -- ---- one change after another
 

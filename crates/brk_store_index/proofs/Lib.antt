@@ -4,9 +4,12 @@ pub mod Placing
 pub mod Places
 pub mod Trading
 pub mod Pricing
+pub mod ByKeys
+pub mod Ranking
 pub mod Aged
 pub mod Changing
 pub mod Ordered
+pub mod Termed
 pub mod Spans
 pub mod PositionLots
 pub mod TradeLists

@@ -16,7 +16,7 @@ use Rattle.brk_store_index.proofs.Elements.{mapped_more}
 -- ---- one row more
 
 -- a row that is inserted is found where no other is
-find_inserted : {X : Type 0} (less : X → X → Bool) (p : X → Bool) (r : X) (xs : List X) → (p r ≡ true → find p xs ≡ None) → find p (insert_by less r xs) ≡ cond (p r) (Some r) (find p xs)
+pub find_inserted : {X : Type 0} (less : X → X → Bool) (p : X → Bool) (r : X) (xs : List X) → (p r ≡ true → find p xs ≡ None) → find p (insert_by less r xs) ≡ cond (p r) (Some r) (find p xs)
 find_inserted less p r [] alone = refl
 find_inserted {X} less p r (x ∷ xs) alone = go (less x r) (p x) refl (λ h. find_inserted less p r xs h)
   where
@@ -33,7 +33,7 @@ find_inserted {X} less p r (x ∷ xs) alone = go (less x r) (p x) refl (λ h. fi
     go true false f more = rw f (more (behind f))
     go false c f more = refl
 
-pushed : {X : Type 0} (r : X) (xs : List X) → insert_by (λ x y. true) r xs ≡ xs ++ r ∷ []
+pub pushed : {X : Type 0} (r : X) (xs : List X) → insert_by (λ x y. true) r xs ≡ xs ++ r ∷ []
 pushed r [] = refl
 pushed r (x ∷ xs) = ap (λ l. x ∷ l) (pushed r xs)
 

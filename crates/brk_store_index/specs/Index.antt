@@ -9,6 +9,7 @@ use Rattle.brk_store_index.specs.Ages.{AreAgesOf}
 use Rattle.brk_store_index.specs.Groups.{ages_of_number, ages_of_position}
 use Rattle.brk_store_index.specs.Parts.{ArePlacesOfLots, ArePlacesOfTrades, age_of_cash_row, age_of_id, age_of_lot, age_of_trade}
 use Rattle.brk_store_index.specs.Prices.{AreLastPricesOf}
+use Rattle.brk_store_index.specs.Terms.{AreTermsOf}
 use Rattle.brk_store_index.specs.declared.age.RowAge.{RowAge}
 use Rattle.brk_store_index.specs.declared.group.Group as typed
 use Rattle.brk_store_index.specs.declared.group.Group.TheVariants as variant
@@ -62,14 +63,15 @@ ages_at index (CashRowsOfAccount account) = ages_of_number index.cash account
 ages_at index (LotChangesOfTrade trade) = ages_of_number index.changes trade
 
 -- The index of the rows of the tables `t`: it has of each group exactly the ages of its rows, the
--- place of each lot and each trade, and the last price of each security.
+-- place of each lot and each trade, the last price of each security, and the terms of orders.
 pub record IsIndexOf (index : RowIndex) (t : Tables) : Type 0 where
   pub groups : (g : Group) → AreAgesOf (ages_at index g) (members g t)
   pub lot_places : ArePlacesOfLots index.lots t.holdings
   pub trade_places : ArePlacesOfTrades index.trades t.trades
   pub last_prices : AreLastPricesOf index.prices t.last_trades
+  pub terms : AreTermsOf index.terms t
 
--- The six tables that the index is made of have these rows.
+-- Six of the tables that the index is made of have these rows.
 pub record HasRowsOf (t : Tables) (holdings : List HoldingRow) (trades : List TradeRow) (accounts : List AccountRow) (changes : List HoldingHistoryRow) (cash : List CashRow) (last_trades : List LastTradeRow) : Type 0 where
   pub lot_rows : t.holdings ≡ holdings
   pub trade_rows : t.trades ≡ trades

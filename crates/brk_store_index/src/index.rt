@@ -1,6 +1,6 @@
 //! The index: made of rows, updated by row changes, and read by group.
 
-ghost use Rattle.std.specs.Prelude.{◌≡◌, ◌==◌, ℕ, IfOk, IfSome, List, OnOk, [], map};
+ghost use Rattle.std.specs.Prelude.{◌≡◌, ◌==◌, ℕ, IfOk, IfSome, OnOk, map};
 ghost use Rattle.std.specs.Option.{option_copied};
 ghost use Rattle.brk_money.specs.Kinds.{is_same_trade_status};
 ghost use Rattle.brk_money.specs.declared.status.Status.TheVariants.{Submitted};
@@ -14,6 +14,7 @@ ghost use Rattle.brk_store_index.specs.Groups.{ages_of_number};
 ghost use Rattle.brk_store_index.specs.Index.{HasRowsOf, IsIndexOf, abstract_group, ages_at, number_of_lots};
 ghost use Rattle.brk_store_index.specs.Parts.{AreAccountsOf, AreCashRowsOf, AreLotChangesOf, age_of_cash_row};
 ghost use Rattle.brk_store_index.specs.Prices.{market_value_of_summary};
+ghost use Rattle.brk_store_index.specs.Terms.{AreTermsOf};
 
 use crate::age::RowAge;
 use crate::by_number::AgesByNumber;
@@ -21,6 +22,7 @@ use crate::group::Group;
 use crate::lost::IndexLost;
 use crate::lots::LotGroups;
 use crate::prices::LastPrices;
+use crate::terms::Terms;
 use crate::trades::TradeGroups;
 use brk_money::{Status, Wide};
 use brk_ref::{AccountRow, CashRow, HoldingRow, LastTrade, LotChange, SummaryRow, TradeRow};
@@ -28,8 +30,8 @@ use brk_trade_rows::Change;
 use std::alloc::Global;
 use std::collections::VecDeque;
 
-/// The ages of the rows of each group (`Group`), the oldest first, and the last price of each
-/// security.
+/// The ages of the rows of each group (`Group`), the oldest first, the last price of each security,
+/// and the terms of orders.
 #[derive(Drop)]
 pub struct RowIndex {
     lots: LotGroups,
@@ -38,6 +40,7 @@ pub struct RowIndex {
     changes: AgesByNumber,
     cash: AgesByNumber,
     prices: LastPrices,
+    terms: Terms,
 }
 
 fn is_submitted(status: Status) -> bool
@@ -89,22 +92,9 @@ fn cash_of_rows(alloc: Global, rows: &[CashRow]) -> Result<AgesByNumber, IndexLo
 }
 
 impl RowIndex {
-    pub fn new(alloc: Global) -> RowIndex
-        ensures { (t : Tables) → HasRowsOf t [] [] [] [] [] [] → IsIndexOf result t }
-    {
-        RowIndex {
-            lots: LotGroups::new(alloc),
-            trades: TradeGroups::new(alloc),
-            accounts: AgesByNumber::new(alloc),
-            changes: AgesByNumber::new(alloc),
-            cash: AgesByNumber::new(alloc),
-            prices: LastPrices::new(alloc),
-        }
-    }
-
     /// Creates the index of all rows of HOLDING, TRADE, CUSTOMER_ACCOUNT, HOLDING_HISTORY, CASH_MOVE
-    /// and LAST_TRADE. Fails also if two rows of a table have one key, or if a cash row has a number
-    /// greater than any id.
+    /// and LAST_TRADE, with the terms of orders. Fails also if two rows of a table have one key, or if
+    /// a cash row has a number greater than any id.
     pub fn of_rows(
         alloc: Global,
         lots: &[HoldingRow],
@@ -113,11 +103,12 @@ impl RowIndex {
         changes: &[LotChange],
         cash: &[CashRow],
         last_trades: &[LastTrade],
+        terms: Terms,
     ) -> Result<RowIndex, IndexLost>
         ensures { IfOk result (λ index. (t : Tables)
             → HasRowsOf t (map abstract_holding_row lots.now) (map abstract_trade_row trades.now) (map abstract_account_row accounts.now) (map abstract_lot_change_row changes.now)
             (map abstract_cash_row cash.now) (map abstract_last_trade_row last_trades.now)
-            → IsIndexOf index t) }
+            → AreTermsOf terms t → IsIndexOf index t) }
     {
         Ok(RowIndex {
             lots: LotGroups::of_rows(alloc, lots)?,
@@ -126,6 +117,7 @@ impl RowIndex {
             changes: lot_changes_of_rows(alloc, changes)?,
             cash: cash_of_rows(alloc, cash)?,
             prices: LastPrices::of_rows(alloc, last_trades)?,
+            terms,
         })
     }
 
@@ -158,6 +150,12 @@ impl RowIndex {
                 self.prices.set(last);
                 Ok(())
             }
+            Change::AddCharge(charge) => self.terms.add_charge(charge),
+            Change::AddBand(band) => self.terms.add_band(band),
+            Change::AddTaxRate(tax) => self.terms.add_tax(tax),
+            Change::AddCustomerTax(pays) => self.terms.add_customer_tax(pays),
+            Change::AddCustomer(customer) => self.terms.add_customer(customer),
+            Change::AddSecurity(security) => self.terms.add_security(security),
             _ => Ok(()),
         }
     }
@@ -184,6 +182,12 @@ impl RowIndex {
 
     pub fn allocator(&self) -> Global {
         self.accounts.alloc
+    }
+
+    pub fn terms(&self) -> &Terms
+        ensures { result.now ≡ self.now.terms }
+    {
+        &self.terms
     }
 
     /// Returns the market value of holdings at last prices, in cents; shares that were sold short
