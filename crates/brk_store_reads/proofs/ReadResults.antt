@@ -6,9 +6,9 @@ use Rattle.sqlite.specs.Held.{Held, state}
 use Rattle.sqlite.specs.State.{HasCleanDisk}
 use Rattle.brk_model.specs.Tables.{Tables}
 use Rattle.brk_store_transactions.specs.Holds.{HoldsRows, ReadPost}
-use Rattle.brk_store_reads.specs.ReadSequences.{IsUnchangedByReads, disk_was_clean_before_reads}
+use Rattle.brk_store_reads.specs.ReadSequences.{IsUnchangedByReads, disk_was_clean_before_reads, joined_reads_change_nothing, single_read_changes_nothing}
 use Rattle.brk_store_reads.proofs.Retelling.{retold}
-use Rattle.brk_store_reads.proofs.Sequences.{none_then, read_with, same_then}
+use Rattle.brk_store_reads.proofs.Sequences.{none_read, none_then, read_with, same_then}
 
 module _ {S : Type 0} (g : Ghosts S) (old mid : Held S) where
   -- an answer that follows from what was read; or no memory for it
@@ -59,6 +59,16 @@ module _ {S : Type 0} (g : Ghosts S) (old mid end : Held S) where
     was_open : {Q : Type 0} → Q → (r : Result X F) → OnOk r Q
     was_open q (Ok x) = q
     was_open q (Err fault) = tt
+
+  -- an answer that follows from a read and from one after it
+  pub both_told : {V W E F : Type 0} (v : V) (result : Result W F) (P : V → Tables → Type 0) (Q : W → Tables → Type 0) (R : W → Tables → Type 0) → ((w : W) (t : Tables) → P v t → Q w t → R w t)
+      → ReadPost {E = E} g old mid (Ok v) P → ReadPost g mid end result Q → ReadPost g old end result R
+  both_told v (Ok w) P Q R tell first next = read_with g old mid end v w w P Q R (tell w) first next
+  both_told v (Err e) P Q R tell first next = none_read g old end e R (joined_reads_change_nothing old mid end (single_read_changes_nothing old mid (Ok v) P first) (single_read_changes_nothing mid end (Err e) Q next))
+
+-- a read before others that change nothing
+pub then_unchanged : {S V E : Type 0} {g : Ghosts S} {old mid end : Held S} {result : Result V E} {P : V → Tables → Type 0} → ReadPost g old mid result P → IsUnchangedByReads g mid end → IsUnchangedByReads g old end
+then_unchanged {old = old} {mid = mid} {end = end} {result = result} {P = P} read on = joined_reads_change_nothing old mid end (single_read_changes_nothing old mid result P read) on
 
 -- ---- what is known of a store by another name
 

@@ -8,4 +8,6 @@ pub mod cash_by_age;
 pub mod chosen_ages;
 pub mod lots_by_symbol;
 pub mod row_index;
+mod terms;
 pub mod trades_by_age;
+mod whole_tables;

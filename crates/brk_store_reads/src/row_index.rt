@@ -4,11 +4,13 @@ ghost use Rattle.std.specs.Prelude.{◌≡◌, false, map};
 ghost use Rattle.brk_ref.specs.Records.{abstract_account_row, abstract_last_trade_row};
 ghost use Rattle.brk_ref.specs.Rows.{abstract_cash_row, abstract_holding_row, abstract_lot_change_row, abstract_trade_row};
 ghost use Rattle.brk_store_index.specs.Index.{IsIndexOf};
+ghost use Rattle.brk_store_index.specs.Terms.{AreTermsOf};
 ghost use Rattle.brk_store_transactions.specs.Holds.{ReadPost};
 
+use crate::terms::read_terms;
 use brk_money::CallFault;
 use brk_ref::{AccountRow, CashRow, HoldingRow, LastTrade, LotChange, TradeRow};
-use brk_store_index::RowIndex;
+use brk_store_index::{RowIndex, Terms};
 use brk_store_transactions::begin_transaction;
 use sqlite::{Alter, Connection};
 use std::alloc::Global;
@@ -91,15 +93,14 @@ fn read_all_last_trades<S: Alter>(
     brk_tables_trading::all_last_trades(&mut tx, alloc)
 }
 
-/// Returns the index of all rows of the tables that it is made of. Fails with `Memory` also if two
-/// rows of a table have one key, or if a cash row has a number greater than any id.
-pub fn read_row_index<S: Alter>(
+fn read_index_with_terms<S: Alter>(
     conn: &mut Connection<S>,
     alloc: Global,
+    terms: Terms,
 ) -> Result<RowIndex, CallFault>
     requires { conn.old.in_transaction ≡ false }
     ensures mode { conn.new.in_transaction ≡ false }
-    ensures read { ReadPost S.Store conn.old conn.new result IsIndexOf }
+    ensures read { ReadPost S.Store conn.old conn.new result (λ index t. AreTermsOf terms t → IsIndexOf index t) }
 {
     let lots = read_all_lots(conn, alloc)?;
     let trades = read_all_trades(conn, alloc)?;
@@ -115,8 +116,23 @@ pub fn read_row_index<S: Alter>(
         &changes,
         &cash,
         &last_trades,
+        terms,
     ) {
         Ok(index) => Ok(index),
         Err(_) => Err(CallFault::Memory),
     }
+}
+
+/// Returns the index of all rows of the tables that it is made of. Fails with `Memory` also if two
+/// rows of a table have one key, or if a cash row has a number greater than any id.
+pub fn read_row_index<S: Alter>(
+    conn: &mut Connection<S>,
+    alloc: Global,
+) -> Result<RowIndex, CallFault>
+    requires { conn.old.in_transaction ≡ false }
+    ensures mode { conn.new.in_transaction ≡ false }
+    ensures read { ReadPost S.Store conn.old conn.new result IsIndexOf }
+{
+    let terms = read_terms(conn, alloc)?;
+    read_index_with_terms(conn, alloc, terms)
 }
