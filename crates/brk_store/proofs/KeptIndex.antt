@@ -15,8 +15,8 @@ use Rattle.brk_store_transactions.specs.Audited.{AdoptPost}
 use Rattle.brk_store_transactions.specs.Holds.{ApplyPost, ReadPost, WasOpenAndIsUnchanged}
 use Rattle.brk_store.specs.Indexed.{IsIndexOfDatabase, IndexIsTrue}
 use Rattle.brk_store_reads.specs.ReadSequences.{IsUnchangedByReads, disk_was_clean_before_reads}
-use Rattle.brk_store.specs.declared.index.StoreIndex.{StoreIndex}
-use Rattle.brk_store.specs.declared.index.StoreIndex.TheVariants.{Absent, Made, Unmade}
+use Rattle.brk_store_index.specs.declared.store_index.StoreIndex.{StoreIndex}
+use Rattle.brk_store_index.specs.declared.store_index.StoreIndex.TheVariants.{Absent, Made, Unmade}
 use Rattle.brk_store_transactions.proofs.Ending.{is_read, with_transaction_open}
 use Rattle.brk_store_index.specs.Index.{IsIndexOf}
 use Rattle.brk_store_index.specs.declared.index.RowIndex.{RowIndex}

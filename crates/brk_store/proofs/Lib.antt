@@ -11,3 +11,4 @@ pub mod ValuesByIndex
 pub mod Definitions
 pub mod RowsOfAccounts
 pub mod Visiting
+pub mod KnownTerms

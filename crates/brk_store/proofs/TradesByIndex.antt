@@ -2,6 +2,7 @@
 use Rattle.std.proofs.Common.{◌≡◌, ◌∙◌, ◌==◌, ◌&&◌, ◌+◌, ◌-◌, ◌<◌, ◌≤◌, ℕ, zero, suc, Bool, true, false, List, [], ◌∷◌, Option, Some, None, Result, IsTrue}
 use Rattle.std.proofs.Common.{drop, filter, find, length, map, min, option_map, refl, slice_get, sym, ap, subst, take, arith, inl, inr}
 use Rattle.std.specs.Prelude.{nat_le, option_to_list}
+use Rattle.std.specs.Global.{Vec}
 use Rattle.std.proofs.Math.Nat.{min-eq_left, min-eq_right, min-le_left, zero-min}
 use Rattle.std.proofs.lemmas.Bool.{cases_lt}
 use Rattle.std.proofs.lemmas.List.{drop-take, drop_all, length-take, take-take, take_all}
@@ -34,7 +35,7 @@ use Rattle.brk_store.specs.Indexed.{IndexIsTrue}
 use Rattle.brk_store_reads.specs.RowsByAge.{AreRowsOfAges}
 use Rattle.brk_store_reads.specs.ReadSequences.{disk_was_clean_before_reads, single_read_changes_nothing}
 use Rattle.brk_store_reads.specs.RowsByAge.{AreFirstTwentyBetween, IsFirstAgeSince}
-use Rattle.brk_store.specs.declared.index.StoreIndex.TheVariants.{Made}
+use Rattle.brk_store_index.specs.declared.store_index.StoreIndex.TheVariants.{Made}
 use Rattle.brk_store_reads.proofs.ByAges.{found_of_ages, read_weaker}
 use Rattle.brk_store.proofs.WalkedLists.{accounts_climb, changes_climb, trades_climb}
 
@@ -111,97 +112,99 @@ told_by_index g conn end store same result shows tells tell read =
     (read_weaker g conn end result shows tells
     (λ clean on v t holds shown. tell (disk_was_clean_before_reads conn end (single_read_changes_nothing conn end result shows read) clean) on t holds v shown) read)
 
-module _ {S : Type 0} (g : Ghosts S) (conn : Held S) (index : RowIndex) (is : IndexIsTrue g conn (Made index)) (clean : HasCleanDisk (state g conn)) (on : IsTrue (state g conn).is_open)
-    (t : Tables) (holds : HoldsRows g conn t) where
-  pub index_of_rows : IsIndexOf index t
-  index_of_rows =
+module _ {S : Type 0} (g : Ghosts S) (conn : Held S) (index : RowIndex) (is : IndexIsTrue g conn (Made index)) where
+  pub index_of_rows : HasCleanDisk (state g conn) → IsTrue (state g conn).is_open → (t : Tables) → HoldsRows g conn t → IsIndexOf index t
+  index_of_rows clean on t holds =
       let c = is.indexed clean on in
       subst (IsIndexOf index) (one_tables c.0 t (state g conn).now c.1 (holds clean on)) c.2
 
-  -- the newest trades of an account
-  pub newest_of_account : (account most : ℕ) (rows : List trade.TradeRow)
-      → AreRowsOfAges (λ age row. Some (abstract_trade_row row) ≡ trade_of_age (λ (r : TradeRow). r.account == account) t.trades age)
-      (take most (drop 0 (in_order true (ages_at index (group.TradesOfAccount account))))) rows
-      → map abstract_trade_row rows ≡ take most (trade_rows_recent_first (trade_rows_of_account t account))
-  newest_of_account account most rows all =
-      let mine = λ (r : TradeRow). r.account == account in
-      let ages = ages_at index (group.TradesOfAccount account) in
-      recent_trades_found t.trades (trades_climb t (state g conn).now (holds clean on)) mine ages (index_of_rows.groups (group.TradesOfAccount account)) 0 most (map abstract_trade_row rows)
-      (found_of_ages abstract_trade_row (trade_of_age mine t.trades) (take most (drop 0 (in_order true ages))) rows all)
+  module _ (end store : Held S) (same : conn ≡ store) {E : Type 0} where
+    -- the newest trades of an account
+    pub newest_read : (account most : ℕ) (result : Result (Vec trade.TradeRow) E)
+        → ReadPost g conn end result (λ rows t. AreRowsOfAges (λ age row. Some (abstract_trade_row row) ≡ trade_of_age (λ (r : TradeRow). r.account == account) t.trades age)
+        (take most (drop 0 (in_order true (ages_at index (group.TradesOfAccount account))))) rows.items)
+        → ReadPost g store end result (λ rows t. map abstract_trade_row rows.items ≡ take most (trade_rows_recent_first (trade_rows_of_account t account)))
+    newest_read account most result = told_by_index g conn end store same result _ _ (λ clean on t holds rows all.
+        let mine = λ (r : TradeRow). r.account == account in
+        let ages = ages_at index (group.TradesOfAccount account) in
+        recent_trades_found t.trades (trades_climb t (state g conn).now (holds clean on)) mine ages ((index_of_rows clean on t holds).groups (group.TradesOfAccount account)) 0 most (map abstract_trade_row rows.items)
+        (found_of_ages abstract_trade_row (trade_of_age mine t.trades) (take most (drop 0 (in_order true ages))) rows.items all))
 
-  -- the oldest twenty trades of a group in a span
-  pub oldest_between : (is_in : TradeRow → Bool) (named : group.Group) → group.members named t ≡ map age_of_trade (filter is_in t.trades) → (first last : ℕ) (rows : List trade.TradeRow)
-      → AreFirstTwentyBetween (λ age row. Some (abstract_trade_row row) ≡ trade_of_age is_in t.trades age) first last (ages_at index named) rows
-      → map abstract_trade_row rows ≡ take 20 (trade_rows_oldest_first (filter (λ r. is_in r && row_stamp_is_between first last r) t.trades))
-  oldest_between is_in named same first last rows shown =
-      let k = shown.0 in
-      let j = shown.1 in
-      let ages = ages_at index named in
-      let are : AreAgesOf ages (map age_of_trade (filter is_in t.trades)) = subst (AreAgesOf ages) same (index_of_rows.groups named) in
-      let up = trades_climb t (state g conn).now (holds clean on) in
-      let sorted = trade_rows_oldest_first (filter is_in t.trades) in
-      let late : TradeRow → Bool = λ r. nat_le first r.stamp in
-      let early : TradeRow → Bool = λ r. nat_le r.stamp last in
-      oldest_trades_found t.trades up is_in ages are k (min (j - k) 20) (map abstract_trade_row rows)
-      (found_of_ages abstract_trade_row (trade_of_age is_in t.trades) (take (min (j - k) 20) (drop k ages)) rows shown.4)
-      ∙ span 20 k j sorted ∙ ap (take 20) (trades_between t.trades up is_in ages are first last k j shown.2 shown.3)
-      ∙ ap (λ l. take 20 (trade_rows_oldest_first l)) (three_tests is_in early late (row_stamp_is_between first last) (λ r. swapped (early r) (late r)) t.trades)
+    -- the oldest twenty trades of a group in a span
+    pub twenty_read : (is_in : TradeRow → Bool) (named : group.Group) → ((t : Tables) → group.members named t ≡ map age_of_trade (filter is_in t.trades)) → (first last : ℕ) (result : Result (Vec trade.TradeRow) E)
+        → ReadPost g conn end result (λ rows t. AreFirstTwentyBetween (λ age row. Some (abstract_trade_row row) ≡ trade_of_age is_in t.trades age) first last (ages_at index named) rows.items)
+        → ReadPost g store end result (λ rows t. map abstract_trade_row rows.items ≡ take 20 (trade_rows_oldest_first (filter (λ r. is_in r && row_stamp_is_between first last r) t.trades)))
+    twenty_read is_in named members first last result = told_by_index g conn end store same result _ _ (λ clean on t holds rows shown.
+        let k = shown.0 in
+        let j = shown.1 in
+        let ages = ages_at index named in
+        let are : AreAgesOf ages (map age_of_trade (filter is_in t.trades)) = subst (AreAgesOf ages) (members t) ((index_of_rows clean on t holds).groups named) in
+        let up = trades_climb t (state g conn).now (holds clean on) in
+        let sorted = trade_rows_oldest_first (filter is_in t.trades) in
+        let late : TradeRow → Bool = λ r. nat_le first r.stamp in
+        let early : TradeRow → Bool = λ r. nat_le r.stamp last in
+        oldest_trades_found t.trades up is_in ages are k (min (j - k) 20) (map abstract_trade_row rows.items)
+        (found_of_ages abstract_trade_row (trade_of_age is_in t.trades) (take (min (j - k) 20) (drop k ages)) rows.items shown.4)
+        ∙ span 20 k j sorted ∙ ap (take 20) (trades_between t.trades up is_in ages are first last k j shown.2 shown.3)
+        ∙ ap (λ l. take 20 (trade_rows_oldest_first l)) (three_tests is_in early late (row_stamp_is_between first last) (λ r. swapped (early r) (late r)) t.trades))
 
-  -- the oldest trade of an account from a stamp on
-  pub first_since : (account first : ℕ) (age : Option RowAge) → IsFirstAgeSince first (ages_at index (group.TradesOfAccount account)) age → (row : Option trade.TradeRow)
-      → AreRowsOfAges (λ age row. Some (abstract_trade_row row) ≡ trade_of_age (λ (r : TradeRow). r.account == account) t.trades age) (option_to_list age) (option_to_list row)
-      → option_to_list (option_map abstract_trade_row row) ≡ take 1 (trade_rows_oldest_first (filter (λ r. nat_le first r.stamp) (trade_rows_of_account t account)))
-  first_since account first age since row all =
-      let k = since.0 in
-      let mine = λ (r : TradeRow). r.account == account in
-      let ages = ages_at index (group.TradesOfAccount account) in
-      let are = index_of_rows.groups (group.TradesOfAccount account) in
-      let up = trades_climb t (state g conn).now (holds clean on) in
-      let one : option_to_list age ≡ take 1 (drop k ages) = ap option_to_list since.2 ∙ one_at k ages in
-      listed row
-      ∙ oldest_trades_found t.trades up mine ages are k 1 (map abstract_trade_row (option_to_list row))
-      (found_of_ages abstract_trade_row (trade_of_age mine t.trades) (option_to_list age) (option_to_list row) all ∙ ap (map (trade_of_age mine t.trades)) one)
-      ∙ ap (take 1) (trades_since t.trades up mine ages are first k since.1)
+    -- the oldest trade of an account from a stamp on
+    pub first_read : (account first : ℕ) (age : Option RowAge) → IsFirstAgeSince first (ages_at index (group.TradesOfAccount account)) age → (result : Result (Option trade.TradeRow) E)
+        → ReadPost g conn end result (λ row t. AreRowsOfAges (λ age row. Some (abstract_trade_row row) ≡ trade_of_age (λ (r : TradeRow). r.account == account) t.trades age) (option_to_list age) (option_to_list row))
+        → ReadPost g store end result (λ row t. option_to_list (option_map abstract_trade_row row) ≡ take 1 (trade_rows_oldest_first (filter (λ r. nat_le first r.stamp) (trade_rows_of_account t account))))
+    first_read account first age since result = told_by_index g conn end store same result _ _ (λ clean on t holds row all.
+        let k = since.0 in
+        let mine = λ (r : TradeRow). r.account == account in
+        let ages = ages_at index (group.TradesOfAccount account) in
+        let are = (index_of_rows clean on t holds).groups (group.TradesOfAccount account) in
+        let up = trades_climb t (state g conn).now (holds clean on) in
+        let one : option_to_list age ≡ take 1 (drop k ages) = ap option_to_list since.2 ∙ one_at k ages in
+        listed row
+        ∙ oldest_trades_found t.trades up mine ages are k 1 (map abstract_trade_row (option_to_list row))
+        (found_of_ages abstract_trade_row (trade_of_age mine t.trades) (option_to_list age) (option_to_list row) all ∙ ap (map (trade_of_age mine t.trades)) one)
+        ∙ ap (take 1) (trades_since t.trades up mine ages are first k since.1))
 
-  -- the submitted trades
-  pub submitted_of_index : (rows : List trade.TradeRow)
-      → AreRowsOfAges (λ age row. Some (abstract_trade_row row) ≡ row_of_age (λ r. r.id) (λ a r. is_same_trade_status r.status Submitted) t.trades age) (ages_at index group.SubmittedTrades) rows
-      → map abstract_trade_row rows ≡ filter (λ r. is_same_trade_status r.status Submitted) t.trades
-  submitted_of_index rows all =
-      let id_of = λ (r : TradeRow). r.id in
-      let waits = λ (r : TradeRow). is_same_trade_status r.status Submitted in
-      let test = λ (a : RowAge) (r : TradeRow). is_same_trade_status r.status Submitted in
-      let found = row_of_age id_of test t.trades in
-      let up = trades_climb t (state g conn).now (holds clean on) in
-      all_by_id id_of (filter waits t.trades) (filtered_rises id_of waits t.trades up) (ages_at index group.SubmittedTrades) (index_of_rows.groups group.SubmittedTrades) found
-      (λ x h. let k = has_filtered waits t.trades x h in age_finds id_of t.trades up test (record { stamp = 0; id = x.id }) x k.0 refl k.1)
-      (map abstract_trade_row rows) (found_of_ages abstract_trade_row found (ages_at index group.SubmittedTrades) rows all)
+    -- the submitted trades
+    pub submitted_read : (result : Result (Vec trade.TradeRow) E)
+        → ReadPost g conn end result (λ rows t. AreRowsOfAges (λ age row. Some (abstract_trade_row row) ≡ row_of_age (λ (r : TradeRow). r.id) (λ a r. is_same_trade_status r.status Submitted) t.trades age)
+        (ages_at index group.SubmittedTrades) rows.items)
+        → ReadPost g store end result (λ rows t. map abstract_trade_row rows.items ≡ filter (λ r. is_same_trade_status r.status Submitted) t.trades)
+    submitted_read result = told_by_index g conn end store same result _ _ (λ clean on t holds rows all.
+        let id_of = λ (r : TradeRow). r.id in
+        let waits = λ (r : TradeRow). is_same_trade_status r.status Submitted in
+        let test = λ (a : RowAge) (r : TradeRow). is_same_trade_status r.status Submitted in
+        let found = row_of_age id_of test t.trades in
+        let up = trades_climb t (state g conn).now (holds clean on) in
+        all_by_id id_of (filter waits t.trades) (filtered_rises id_of waits t.trades up) (ages_at index group.SubmittedTrades) ((index_of_rows clean on t holds).groups group.SubmittedTrades) found
+        (λ x h. let k = has_filtered waits t.trades x h in age_finds id_of t.trades up test (record { stamp = 0; id = x.id }) x k.0 refl k.1)
+        (map abstract_trade_row rows.items) (found_of_ages abstract_trade_row found (ages_at index group.SubmittedTrades) rows.items all))
 
-  -- the accounts of a customer
-  pub accounts_of_index : (customer : ℕ) (rows : List account.AccountRow)
-      → AreRowsOfAges (λ age row. Some (abstract_account_row row) ≡ row_of_age (λ r. r.id) (λ a r. r.customer == customer) t.accounts age) (ages_at index (group.AccountsOfCustomer customer)) rows
-      → map abstract_account_row rows ≡ filter (λ r. r.customer == customer) t.accounts
-  accounts_of_index customer rows all =
-      let id_of = λ (r : AccountRow). r.id in
-      let mine = λ (r : AccountRow). r.customer == customer in
-      let test = λ (a : RowAge) (r : AccountRow). r.customer == customer in
-      let found = row_of_age id_of test t.accounts in
-      let up = accounts_climb t (state g conn).now (holds clean on) in
-      all_by_id id_of (filter mine t.accounts) (filtered_rises id_of mine t.accounts up) (ages_at index (group.AccountsOfCustomer customer))
-      (index_of_rows.groups (group.AccountsOfCustomer customer)) found
-      (λ x h. let k = has_filtered mine t.accounts x h in age_finds id_of t.accounts up test (record { stamp = 0; id = x.id }) x k.0 refl k.1)
-      (map abstract_account_row rows) (found_of_ages abstract_account_row found (ages_at index (group.AccountsOfCustomer customer)) rows all)
+    -- the accounts of a customer
+    pub accounts_read : (customer : ℕ) (result : Result (Vec account.AccountRow) E)
+        → ReadPost g conn end result (λ rows t. AreRowsOfAges (λ age row. Some (abstract_account_row row) ≡ row_of_age (λ (r : AccountRow). r.id) (λ a r. r.customer == customer) t.accounts age)
+        (ages_at index (group.AccountsOfCustomer customer)) rows.items)
+        → ReadPost g store end result (λ rows t. map abstract_account_row rows.items ≡ filter (λ r. r.customer == customer) t.accounts)
+    accounts_read customer result = told_by_index g conn end store same result _ _ (λ clean on t holds rows all.
+        let id_of = λ (r : AccountRow). r.id in
+        let mine = λ (r : AccountRow). r.customer == customer in
+        let test = λ (a : RowAge) (r : AccountRow). r.customer == customer in
+        let found = row_of_age id_of test t.accounts in
+        let up = accounts_climb t (state g conn).now (holds clean on) in
+        all_by_id id_of (filter mine t.accounts) (filtered_rises id_of mine t.accounts up) (ages_at index (group.AccountsOfCustomer customer))
+        ((index_of_rows clean on t holds).groups (group.AccountsOfCustomer customer)) found
+        (λ x h. let k = has_filtered mine t.accounts x h in age_finds id_of t.accounts up test (record { stamp = 0; id = x.id }) x k.0 refl k.1)
+        (map abstract_account_row rows.items) (found_of_ages abstract_account_row found (ages_at index (group.AccountsOfCustomer customer)) rows.items all))
 
-  -- the lot changes of a trade
-  pub changes_of_index : (trade_id : ℕ) (rows : List change.LotChange)
-      → AreRowsOfAges (λ age row. Some (abstract_lot_change_row row) ≡ find (λ (r : HoldingHistoryRow). (r.lot == age.id) && (r.trade == trade_id)) t.holding_history)
-      (ages_at index (group.LotChangesOfTrade trade_id)) rows
-      → map abstract_lot_change_row rows ≡ filter (λ r. r.trade == trade_id) t.holding_history
-  changes_of_index trade_id rows all =
-      let lot_of = λ (r : HoldingHistoryRow). r.lot in
-      let by = λ (r : HoldingHistoryRow). r.trade == trade_id in
-      let found = λ (a : RowAge). find (λ (r : HoldingHistoryRow). (r.lot == a.id) && (r.trade == trade_id)) t.holding_history in
-      let up = changes_climb trade_id t (state g conn).now (holds clean on) in
-      all_by_id lot_of (filter by t.holding_history) up (ages_at index (group.LotChangesOfTrade trade_id)) (index_of_rows.groups (group.LotChangesOfTrade trade_id)) found
-      (λ x h. find_in_filter (λ (r : HoldingHistoryRow). r.lot == x.lot) by t.holding_history ∙ finds lot_of (filter by t.holding_history) x up h)
-      (map abstract_lot_change_row rows) (found_of_ages abstract_lot_change_row found (ages_at index (group.LotChangesOfTrade trade_id)) rows all)
+    -- the lot changes of a trade
+    pub changes_read : (trade_id : ℕ) (result : Result (Vec change.LotChange) E)
+        → ReadPost g conn end result (λ rows t. AreRowsOfAges (λ age row. Some (abstract_lot_change_row row) ≡ find (λ (r : HoldingHistoryRow). (r.lot == age.id) && (r.trade == trade_id)) t.holding_history)
+        (ages_at index (group.LotChangesOfTrade trade_id)) rows.items)
+        → ReadPost g store end result (λ rows t. map abstract_lot_change_row rows.items ≡ filter (λ r. r.trade == trade_id) t.holding_history)
+    changes_read trade_id result = told_by_index g conn end store same result _ _ (λ clean on t holds rows all.
+        let lot_of = λ (r : HoldingHistoryRow). r.lot in
+        let by = λ (r : HoldingHistoryRow). r.trade == trade_id in
+        let found = λ (a : RowAge). find (λ (r : HoldingHistoryRow). (r.lot == a.id) && (r.trade == trade_id)) t.holding_history in
+        let up = changes_climb trade_id t (state g conn).now (holds clean on) in
+        all_by_id lot_of (filter by t.holding_history) up (ages_at index (group.LotChangesOfTrade trade_id)) ((index_of_rows clean on t holds).groups (group.LotChangesOfTrade trade_id)) found
+        (λ x h. find_in_filter (λ (r : HoldingHistoryRow). r.lot == x.lot) by t.holding_history ∙ finds lot_of (filter by t.holding_history) x up h)
+        (map abstract_lot_change_row rows.items) (found_of_ages abstract_lot_change_row found (ages_at index (group.LotChangesOfTrade trade_id)) rows.items all))

@@ -7,15 +7,21 @@ use Rattle.brk_model.specs.Tables.{Tables}
 use Rattle.brk_tables_schema.specs.Made.{HasDeskTables}
 use Rattle.brk_tables.proofs.OneTables.{one_tables}
 use Rattle.brk_store_index.specs.Index.{IsIndexOf}
+use Rattle.brk_store_index.specs.IfMade.{IsIndexIfMade}
 use Rattle.brk_store_index.specs.declared.index.RowIndex.{RowIndex}
 use Rattle.brk_store_transactions.specs.Holds.{ReadPost}
 use Rattle.brk_store.specs.Indexed.{IndexIsTrue, IsIndexOfDatabase}
-use Rattle.brk_store.specs.declared.index.StoreIndex.{StoreIndex}
-use Rattle.brk_store.specs.declared.index.StoreIndex.TheVariants.{Made}
+use Rattle.brk_store_index.specs.declared.store_index.StoreIndex.{StoreIndex}
+use Rattle.brk_store_index.specs.declared.store_index.StoreIndex.TheVariants.{Absent, Made, Unmade}
 use Rattle.brk_store_reads.specs.ReadSequences.{disk_was_clean_before_reads, single_read_changes_nothing}
 
 pub index_of_tables : (index : RowIndex) (db : Database) (t : Tables) → IsIndexOfDatabase (Made index) db → HasDeskTables t db → IsIndexOf index t
 index_of_tables index db t is has = subst (IsIndexOf index) (one_tables is.0 t db is.1 has) is.2
+
+pub index_if_made : (index : StoreIndex) (db : Database) (t : Tables) → IsIndexOfDatabase index db → HasDeskTables t db → IsIndexIfMade index t
+index_if_made (Made index) db t is has = index_of_tables index db t is has
+index_if_made Unmade db t is has = tt
+index_if_made Absent db t is has = tt
 
 -- what was read and the index tell this together, of a store by another name
 pub retold_by_index : {S V X E H : Type 0} (g : Ghosts S) (conn end store : Held S) → conn ≡ store → (index : StoreIndex) → IndexIsTrue g conn index → (v : V) (x : X) (P : V → Tables → Type 0) (R : X → Tables → Type 0)

@@ -6,10 +6,11 @@ use Rattle.std.specs.Ordering.{ordering_then}
 use Rattle.std.specs.Cmp.Lexicographic.{slice_cmp}
 use Rattle.std.proofs.lemmas.Bool.{cases_Bool, eqb-true}
 use Rattle.std.proofs.lemmas.Bool.Decides.{nat_tests}
+use Rattle.std.proofs.lemmas.Cmp.{tied_itself}
 use Rattle.std.proofs.lemmas.Slice.Eq.{bytes_eq-Decides}
 use Rattle.sqlite_value.specs.declared.value.Value.TheVariants.{Int}
 use Rattle.sqlite_value.specs.Order.{value_cmp}
-use Rattle.sqlite_value.proofs.OrderLemmas.{value_cmp-Int}
+use Rattle.sqlite_value.proofs.OrderLemmas.{value_cmp-Int, value_cmp_total}
 use Rattle.sqlite_trees.specs.declared.store.Store.{Ghosts}
 use Rattle.sqlite.specs.Effect.{Database}
 use Rattle.sqlite.specs.Held.{Held, state}
@@ -20,12 +21,13 @@ use Rattle.brk_ref.specs.declared.trade_row.TradeRow as trade
 use Rattle.brk_model.specs.Keys.{word, rows_sorted_by_key, is_row_key_less}
 use Rattle.brk_model.specs.Joins.{trade_rows_oldest_first}
 use Rattle.brk_model.specs.Lists.{insert_by, is_pair_less, sort_by, sort_by_key, is_text_less}
+use Rattle.brk_model.specs.Records.{CustomerTax}
 use Rattle.brk_model.specs.Statement.{holding_rows_of_account}
 use Rattle.brk_model.specs.Tables.{AccountRow, HoldingHistoryRow, HoldingRow, CashRow, Tables, TradeRow}
 use Rattle.brk_money.specs.Kinds.{is_same_trade_status}
 use Rattle.brk_money.specs.declared.status.Status.TheVariants.{Completed}
 use Rattle.brk_tables_sql.specs.Rows.{IsStrictlyAscending}
-use Rattle.brk_tables_schema.specs.Desk.{Accounts, CashMoves, HoldingHistory, Holdings, Trades, ordering_by_primary_key}
+use Rattle.brk_tables_schema.specs.Desk.{Accounts, CashMoves, CustomerTaxes, HoldingHistory, Holdings, Trades, ordering_by_primary_key}
 use Rattle.brk_tables_schema.specs.Made.{HasDeskTables}
 use Rattle.brk_trade_books.proofs.Bools.{same_text, texts_back}
 use Rattle.brk_trade_books.proofs.LotReading.{All-sort}
@@ -200,50 +202,34 @@ trades_climb t db has = climbs (λ (r : TradeRow). r.id) (ordering_by_primary_ke
 pub accounts_climb : (t : Tables) (db : Database) → HasDeskTables t db → IsStrictlyAscendingBy (λ r. r.id) t.accounts
 accounts_climb t db has = climbs (λ (r : AccountRow). r.id) (ordering_by_primary_key Accounts) (λ x y k. less_number x.id y.id k) t.accounts (has.1.rows Accounts).rising
 
--- the changes of lots by one trade climb by the lot
-less_lot : (m n trade : ℕ) → slice_cmp value_cmp (Int (pos m) ∷ Int (pos trade) ∷ []) (Int (pos n) ∷ Int (pos trade) ∷ []) ≡ Less → nat_lt m n ≡ true
-less_lot m n trade h = go (nat_lt m n) refl
-  where
-    same : nat_lt trade trade ≡ false
-    same = grind (arith, nat_tests)
-
-    go : (b : Bool) → nat_lt m n ≡ b → nat_lt m n ≡ true
-    go true e = e
-    go false e =
-        let k : ordering_then (int_cmp (pos m) (pos n)) (ordering_then (int_cmp (pos trade) (pos trade)) Equal) ≡ Less =
-        rw (value_cmp-Int (pos m) (pos n), value_cmp-Int (pos trade) (pos trade)) at h in
-        elim (cases_Bool (nat_lt n m)) [ inl b ↦ absurd (let f = rw (e, b) at k in cc) | inr b ↦ absurd (let f = rw (e, b, same) at k in cc) ]
-
-module _ (trade : ℕ) where
-  abbrev by_trade : HoldingHistoryRow → Bool
-  by_trade r = r.trade == trade
-
-  less_change : (x y : HoldingHistoryRow) → by_trade x ≡ true → by_trade y ≡ true → ordering_by_primary_key HoldingHistory x y ≡ Less → nat_lt x.lot y.lot ≡ true
-  less_change x y p q k =
-      less_lot x.lot y.lot trade
-      (subst (λ b. slice_cmp value_cmp (Int (pos x.lot) ∷ Int (pos trade) ∷ []) (Int (pos y.lot) ∷ Int (pos b) ∷ []) ≡ Less) (eqb-true y.trade trade q)
-      (subst (λ a. slice_cmp value_cmp (Int (pos x.lot) ∷ Int (pos a) ∷ []) (Int (pos y.lot) ∷ Int (pos y.trade) ∷ []) ≡ Less) (eqb-true x.trade trade p) k))
-
-  later_lots : (x : HoldingHistoryRow) → by_trade x ≡ true → (ys : List HoldingHistoryRow) → AllByRecursion (λ y. ordering_by_primary_key HoldingHistory x y ≡ Less) ys
-      → AllByRecursion (λ y. nat_lt x.lot y.lot ≡ true) (filter by_trade ys)
-  later_lots x p [] h = tt
-  later_lots x p (y ∷ ys) h = go (by_trade y) refl (later_lots x p ys h.1)
+-- rows that pass a test climb by a number, if a key of them is less only where the number is
+module _ {X : Type 0} (n : X → ℕ) (p : X → Bool) (order : X → X → Ordering) (less : (x y : X) → p x ≡ true → p y ≡ true → order x y ≡ Less → nat_lt (n x) (n y) ≡ true) where
+  later : (x : X) → p x ≡ true → (ys : List X) → AllByRecursion (λ y. order x y ≡ Less) ys → AllByRecursion (λ y. nat_lt (n x) (n y) ≡ true) (filter p ys)
+  later x e [] h = tt
+  later x e (y ∷ ys) h = go (p y) refl (later x e ys h.1)
     where
-      go : (b : Bool) → by_trade y ≡ b → AllByRecursion (λ y. nat_lt x.lot y.lot ≡ true) (filter by_trade ys)
-          → AllByRecursion (λ y. nat_lt x.lot y.lot ≡ true) (cond b (y ∷ filter by_trade ys) (filter by_trade ys))
-      go true q more = (less_change x y p q h.0, more)
+      go : (b : Bool) → p y ≡ b → AllByRecursion (λ y. nat_lt (n x) (n y) ≡ true) (filter p ys) → AllByRecursion (λ y. nat_lt (n x) (n y) ≡ true) (cond b (y ∷ filter p ys) (filter p ys))
+      go true q more = (less x y e q h.0, more)
       go false q more = more
 
-  rising_lots : (xs : List HoldingHistoryRow) → IsStrictlyAscending (ordering_by_primary_key HoldingHistory) xs → IsStrictlyAscendingBy (λ r. r.lot) (filter by_trade xs)
-  rising_lots [] h = tt
-  rising_lots (x ∷ xs) h = go (by_trade x) refl (rising_lots xs h.1)
+  climbs_filtered : (xs : List X) → IsStrictlyAscending order xs → IsStrictlyAscendingBy n (filter p xs)
+  climbs_filtered [] h = tt
+  climbs_filtered (x ∷ xs) h = go (p x) refl (climbs_filtered xs h.1)
     where
-      go : (b : Bool) → by_trade x ≡ b → IsStrictlyAscendingBy (λ r. r.lot) (filter by_trade xs) → IsStrictlyAscendingBy (λ r. r.lot) (cond b (x ∷ filter by_trade xs) (filter by_trade xs))
-      go true p more = (later_lots x p xs h.0, more)
-      go false p more = more
+      go : (b : Bool) → p x ≡ b → IsStrictlyAscendingBy n (filter p xs) → IsStrictlyAscendingBy n (cond b (x ∷ filter p xs) (filter p xs))
+      go true e more = (later x e xs h.0, more)
+      go false e more = more
 
-  pub changes_climb : (t : Tables) (db : Database) → HasDeskTables t db → IsStrictlyAscendingBy (λ r. r.lot) (filter by_trade t.holding_history)
-  changes_climb t db has = rising_lots t.holding_history (has.1.rows HoldingHistory).rising
+tied : (a b c : ℕ) → (a == c) ≡ true → (b == c) ≡ true → value_cmp (Int (pos a)) (Int (pos b)) ≡ Equal
+tied a b c p q = rw (eqb-true a c p, eqb-true b c q) (tied_itself value_cmp_total (Int (pos c)))
+
+pub changes_climb : (trade : ℕ) (t : Tables) (db : Database) → HasDeskTables t db → IsStrictlyAscendingBy (λ r. r.lot) (filter (λ (r : HoldingHistoryRow). r.trade == trade) t.holding_history)
+changes_climb trade t db has =
+    climbs_filtered (λ (r : HoldingHistoryRow). r.lot) (λ r. r.trade == trade) (ordering_by_primary_key HoldingHistory) (λ x y p q k. less_number x.lot y.lot (rw (tied x.trade y.trade trade p q) at k)) t.holding_history (has.1.rows HoldingHistory).rising
+
+pub customer_taxes_climb : (customer : ℕ) (t : Tables) (db : Database) → HasDeskTables t db → IsStrictlyAscendingBy (λ r. r.tax) (filter (λ (r : CustomerTax). r.customer == customer) t.customer_taxes)
+customer_taxes_climb customer t db has =
+    climbs_filtered (λ (r : CustomerTax). r.tax) (λ r. r.customer == customer) (ordering_by_primary_key CustomerTaxes) (λ x y p q k. less_number x.tax y.tax (rw (tied x.customer y.customer customer p q) at k)) t.customer_taxes (has.1.rows CustomerTaxes).rising
 
 -- ---- walks of a store
 

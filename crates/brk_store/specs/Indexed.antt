@@ -13,8 +13,8 @@ use Rattle.brk_tables_schema.specs.Made.{HasDeskTables}
 use Rattle.brk_store_index.specs.Ages.{in_order}
 use Rattle.brk_store_index.specs.Index.{IsIndexOf, lot_of_age}
 use Rattle.brk_store_index.specs.declared.age.RowAge.{RowAge}
-use Rattle.brk_store.specs.declared.index.StoreIndex.{StoreIndex}
-use Rattle.brk_store.specs.declared.index.StoreIndex.TheVariants.{Absent, Made, Unmade}
+use Rattle.brk_store_index.specs.declared.store_index.StoreIndex.{StoreIndex}
+use Rattle.brk_store_index.specs.declared.store_index.StoreIndex.TheVariants.{Absent, Made, Unmade}
 
 -- The database `db` has the tables of a desk with some rows, and an index that was made has exactly
 -- their rows. Of an index that is absent nothing is said.

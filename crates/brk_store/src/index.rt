@@ -1,51 +1,24 @@
 //! The index of a store in memory: made from its tables, and kept over changes.
 
-ghost use Rattle.std.specs.Prelude.{◌≡◌, IfOk, IfSome, IsTrue, OnErr, OnOk, false, map, true};
+ghost use Rattle.std.specs.Prelude.{◌≡◌, IfOk, IsTrue, OnErr, OnOk, false, true};
 ghost use Rattle.sqlite.specs.Effect.{Database};
 ghost use Rattle.sqlite.specs.Held.{state};
 ghost use Rattle.sqlite.specs.State.{HasCleanDisk};
 ghost use Rattle.brk_trade_rows.specs.Changes.{tables_after_changes};
-ghost use Rattle.brk_ref.specs.Rows.{abstract_summary_row};
-ghost use Rattle.brk_store_index.specs.Prices.{market_value_of_summary};
-ghost use Rattle.brk_model.specs.Lists.{total_by};
 ghost use Rattle.brk_model.specs.Tables.{Tables};
 ghost use Rattle.brk_store.specs.Indexed.{IndexIsTrue, IsIndexOfDatabase};
-ghost use Rattle.brk_store.specs.declared.index.StoreIndex.TheVariants.{Unmade};
+ghost use Rattle.brk_store_index.specs.declared.store_index.StoreIndex.TheVariants.{Unmade};
 ghost use Rattle.brk_store_reads.specs.ReadSequences.{IsUnchangedByReads};
 ghost use Rattle.brk_tables_schema.specs.Made.{HasDeskTables};
 
 use crate::Store;
-use brk_money::{StoreFailed, Wide};
-use brk_ref::SummaryRow;
-use brk_store_index::RowIndex;
+use brk_money::StoreFailed;
+use brk_store_index::StoreIndex;
 use brk_store_reads::row_index::read_row_index;
 use brk_store_transactions::require_open;
 use brk_trade_rows::Change;
 use sqlite::{Alter, Connection};
 use std::alloc::Global;
-
-/// The index of a store: of its tables, if it has one.
-#[derive(Drop)]
-pub(crate) enum StoreIndex {
-    // The database has the tables of a desk. The first read that could use the index makes it.
-    Unmade,
-    Made(RowIndex),
-    // Reads scan the tables.
-    Absent,
-}
-
-impl StoreIndex {
-    // Returns `None` if there is no index, a security has no last price, or the value overflows.
-    pub(crate) fn market_value(&self, rows: &[SummaryRow]) -> Option<Wide>
-        ensures { (db : Database) (t : Tables) → IsIndexOfDatabase self.now db → HasDeskTables t db
-            → IfSome result (λ value. value ≡ total_by (market_value_of_summary t) (map abstract_summary_row rows.now)) }
-    {
-        match self {
-            StoreIndex::Made(index) => index.market_value(rows),
-            StoreIndex::Unmade | StoreIndex::Absent => None,
-        }
-    }
-}
 
 /// An index that could not be updated is dropped, and may be made again.
 pub(crate) fn index_after_changes(index: StoreIndex, changes: &[Change]) -> StoreIndex

@@ -7,6 +7,7 @@ mod brokers;
 mod cash;
 mod holdings;
 mod index;
+mod known;
 mod lot_changes;
 mod lots;
 mod numbers;

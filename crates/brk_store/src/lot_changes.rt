@@ -11,10 +11,9 @@ ghost use Rattle.brk_tables_schema.specs.Desk.{HoldingHistory};
 ghost use Rattle.brk_tables_schema.specs.Statements.{AreMatchingRows};
 
 use crate::Store;
-use crate::index::StoreIndex;
 use brk_money::{CallFault, Id};
 use brk_ref::LotChange;
-use brk_store_index::Group;
+use brk_store_index::{Group, StoreIndex};
 use brk_store_reads::accounts_by_age::LotChangesOfTrade;
 use brk_store_reads::by_age::read_all_rows;
 use brk_store_transactions::begin_transaction;

@@ -9,10 +9,9 @@ ghost use Rattle.brk_store_transactions.specs.Holds.{ReadPost};
 ghost use Rattle.brk_store.specs.Indexed.{HasRowOfEachAge};
 
 use crate::Store;
-use crate::index::StoreIndex;
 use brk_money::{CallFault, Id, Stamp, StoreFailed};
 use brk_ref::{HoldingRow, Symbol};
-use brk_store_index::{Group, RowAge};
+use brk_store_index::{Group, RowAge, StoreIndex};
 use brk_store_reads::by_age::{RowsByAge, read_chosen_rows};
 use brk_store_reads::lots_by_symbol::read_lot_by_trade;
 use sqlite::{Alter, Connection};

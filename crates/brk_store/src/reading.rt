@@ -3,7 +3,7 @@
 //! `Store` also if a row is malformed or if the `sqlite` crate runs out of memory, and a read of a
 //! single row also if its decoding does. A crash after a read exposes only states that a crash
 //! before it could expose.
-#![tactic(auto, using(brk_store_transactions::proofs::Ending::read_is_over, crate::proofs::KeptIndex::read_keeps_index))]
+#![tactic(auto, using(brk_store_transactions::proofs::Ending::read_is_over, crate::proofs::KeptIndex::read_keeps_index, crate::proofs::KnownTerms::known_is_read))]
 
 ghost use Rattle.std.specs.Prelude.{◌≡◌, ◌==◌, ◌&&◌, bytes_eq};
 ghost use Rattle.brk_ref.specs.Records.{abstract_account_row, abstract_broker_row, abstract_customer, abstract_kept_row};
@@ -12,10 +12,10 @@ ghost use Rattle.brk_tables_schema.specs.Desk.{Accounts, Brokers, Customers, Kep
 ghost use Rattle.brk_tables_schema.specs.Statements.{IsFirstMatch, AreMatchingRows};
 
 use crate::Store;
-use crate::index::StoreIndex;
+use crate::known::known_if_open;
 use brk_money::{CallFault, Id, Stamp, StoreFailed};
 use brk_ref::{AccountRow, BrokerRow, Customer, Kept, Key, TaxId};
-use brk_store_index::Group;
+use brk_store_index::{Group, StoreIndex};
 use brk_store_reads::accounts_by_age::AccountsOfCustomer;
 use brk_store_reads::by_age::read_all_rows;
 use brk_store_transactions::begin_transaction;
@@ -44,6 +44,9 @@ impl<S: Alter> Store<S> {
     pub fn customer(&mut self, id: Id) -> Result<Option<Customer>, StoreFailed>
         ensures read { ReadPost S.Store self.old self.new result (IsFirstMatch Customers abstract_customer (λ r. r.id == id)) }
     {
+        if let Some(customer) = self.index.customer(id) {
+            return known_if_open(&mut self.conn, customer);
+        }
         let mut tx = begin_transaction(&mut self.conn);
         brk_tables_reference::customer_by_id(&mut tx, id)
     }

@@ -1,8 +1,9 @@
 //! The store: its creation, the changes of its rows, and its connection; `adoption` opens an
 //! existing database.
 
-use crate::index::{StoreIndex, index_after_changes};
+use crate::index::index_after_changes;
 use brk_money::Fault;
+use brk_store_index::StoreIndex;
 use brk_store_transactions::{apply_changes, create_tables_atomically};
 use brk_trade_rows::Change;
 use sqlite::{Alter, Connection};

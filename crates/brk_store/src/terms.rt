@@ -1,9 +1,10 @@
-//! Reads of permissions, securities, charges, commission bands and taxes. Each read begins a
-//! transaction and ends it without a commit (no clause states this). A read fails with `Store` also
-//! if a row is malformed or if the `sqlite` crate runs out of memory, and a read of a single row
-//! also if its decoding does. A crash after a read exposes only states that a crash before it could
+//! Reads of permissions, securities, charges, commission bands and taxes. Charges, bands and taxes
+//! are read from memory if the store has an index. Each other read begins a transaction and ends it
+//! without a commit (no clause states this). A read fails with `Store` also if a row is malformed or
+//! if the `sqlite` crate runs out of memory, and a read of a single row also if its decoding does. A
+//! crash after a read exposes only states that a crash before it could
 //! expose.
-#![tactic(auto, using(brk_store_transactions::proofs::Ending::read_is_over, crate::proofs::KeptIndex::read_keeps_index))]
+#![tactic(auto, using(brk_store_transactions::proofs::Ending::read_is_over, crate::proofs::KeptIndex::read_keeps_index, crate::proofs::KnownTerms::known_is_read))]
 
 ghost use Rattle.std.specs.Prelude.{◌==◌, ◌&&◌, bytes_eq};
 ghost use Rattle.brk_money.specs.Kinds.{is_same_trade_type};
@@ -13,6 +14,7 @@ ghost use Rattle.brk_tables_schema.specs.Desk.{Bands, Charges, CustomerTaxes, Pe
 ghost use Rattle.brk_tables_schema.specs.Statements.{IsFirstMatch, AreMatchingRows};
 
 use crate::Store;
+use crate::known::{known_if_open, known_rows_if_open};
 use brk_money::{CallFault, Id, StoreFailed, TradeType};
 use brk_ref::{
     Band, Charge, CustomerTax, Exchange, Permission, Security, Symbol, Tax, TaxId, Tier,
@@ -39,6 +41,9 @@ impl<S: Alter> Store<S> {
     pub fn security(&mut self, symbol: &Symbol) -> Result<Option<Security>, StoreFailed>
         ensures read { ReadPost S.Store self.old self.new result (IsFirstMatch Securities abstract_security_row (λ r. bytes_eq r.symbol symbol.now)) }
     {
+        if let Some(security) = self.index.security(symbol) {
+            return known_if_open(&mut self.conn, security);
+        }
         let mut tx = begin_transaction(&mut self.conn);
         brk_tables_reference::security_by_symbol(&mut tx, symbol)
     }
@@ -48,6 +53,9 @@ impl<S: Alter> Store<S> {
         ensures read { ReadPost S.Store self.old self.new result (IsFirstMatch Charges abstract_charge (λ r. is_same_trade_type r.kind kind
             && (r.tier == tier))) }
     {
+        if let Some(charge) = self.index.charge(kind, tier) {
+            return known_if_open(&mut self.conn, charge);
+        }
         let mut tx = begin_transaction(&mut self.conn);
         brk_tables_reference::charge_for(&mut tx, kind, tier)
     }
@@ -64,6 +72,9 @@ impl<S: Alter> Store<S> {
         ensures read { ReadPost S.Store self.old self.new result (AreMatchingRows Bands abstract_band (λ r. (r.tier == tier) && is_same_trade_type r.kind kind
             && bytes_eq r.exchange exchange.now)) }
     {
+        if let Some(bands) = self.index.bands(alloc, tier, kind, exchange) {
+            return known_rows_if_open(&mut self.conn, bands);
+        }
         let mut tx = begin_transaction(&mut self.conn);
         brk_tables_reference::bands_for(&mut tx, alloc, tier, kind, exchange)
     }
@@ -72,6 +83,9 @@ impl<S: Alter> Store<S> {
     pub fn tax_with_id(&mut self, id: Id) -> Result<Option<Tax>, StoreFailed>
         ensures read { ReadPost S.Store self.old self.new result (IsFirstMatch TaxRates abstract_tax_rate (λ r. r.id == id)) }
     {
+        if let Some(tax) = self.index.tax(id) {
+            return known_if_open(&mut self.conn, tax);
+        }
         let mut tx = begin_transaction(&mut self.conn);
         brk_tables_reference::tax_rate_by_id(&mut tx, id)
     }
@@ -98,6 +112,9 @@ impl<S: Alter> Store<S> {
     ) -> Result<Vec<CustomerTax>, CallFault>
         ensures read { ReadPost S.Store self.old self.new result (AreMatchingRows CustomerTaxes abstract_customer_tax (λ r. r.customer == customer)) }
     {
+        if let Some(all) = self.index.taxes_of_customer(alloc, customer) {
+            return known_rows_if_open(&mut self.conn, all);
+        }
         let mut tx = begin_transaction(&mut self.conn);
         brk_tables_reference::taxes_of_customer(&mut tx, alloc, customer)
     }

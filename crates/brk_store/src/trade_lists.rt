@@ -12,10 +12,9 @@ ghost use Rattle.brk_tables_schema.specs.Desk.{TradeHistory};
 ghost use Rattle.brk_tables_schema.specs.Statements.{AreMatchingRows};
 
 use crate::Store;
-use crate::index::StoreIndex;
 use brk_money::{CallFault, Id};
 use brk_ref::{HistoryRow, TradeRow};
-use brk_store_index::Group;
+use brk_store_index::{Group, StoreIndex};
 use brk_store_reads::by_age::read_chosen_rows;
 use brk_store_reads::trades_by_age::TradesOfAccount;
 use brk_store_transactions::begin_transaction;

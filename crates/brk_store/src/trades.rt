@@ -15,10 +15,9 @@ ghost use Rattle.brk_tables_schema.specs.Desk.{LastTrades, Requests, Trades};
 ghost use Rattle.brk_tables_schema.specs.Statements.{IsFirstMatch, AreMatchingRows};
 
 use crate::Store;
-use crate::index::StoreIndex;
 use brk_money::{CallFault, Id, StoreFailed};
 use brk_ref::{LastTrade, RequestRow, Symbol, TradeRow};
-use brk_store_index::Group;
+use brk_store_index::{Group, StoreIndex};
 use brk_store_reads::by_age::read_all_rows;
 use brk_store_reads::trades_by_age::SubmittedTrades;
 use brk_store_transactions::begin_transaction;

@@ -11,10 +11,9 @@ ghost use Rattle.brk_model.specs.LookupView.{row_stamp_is_between};
 ghost use Rattle.brk_store_transactions.specs.Holds.{ReadPost};
 
 use crate::Store;
-use crate::index::StoreIndex;
 use brk_money::{CallFault, Id, Stamp, StoreFailed};
 use brk_ref::{Span, Symbol, TradeRow};
-use brk_store_index::Group;
+use brk_store_index::{Group, StoreIndex};
 use brk_store_reads::by_age::read_optional_row;
 use brk_store_reads::chosen_ages::first_age_since;
 use brk_store_reads::trades_by_age::{TradesOfAccount, TradesOfSymbol, read_twenty_between};

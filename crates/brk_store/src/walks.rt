@@ -13,12 +13,11 @@ ghost use Rattle.brk_tables_views.specs.Calling.{IsClosureCallWithLot};
 ghost use Rattle.brk_store.specs.Walked.{CallsClosureWithEachRecord, WalkPost, cash_rows_in_span, completed_trades_by_stamp};
 
 use crate::Store;
-use crate::index::StoreIndex;
 use crate::visits::visit_read_rows;
 use brk_lots::Lot;
 use brk_money::{Fault, Id, Stamp};
 use brk_ref::{CashRow, HoldingRow, TradeRow};
-use brk_store_index::{Group, RowAge};
+use brk_store_index::{Group, RowAge, StoreIndex};
 use brk_store_reads::cash_by_age::read_cash_rows_between;
 use brk_store_reads::lots_by_symbol::read_lots_by_symbol;
 use brk_tables_views::{ClosureVisitor, LotClosureVisitor, Visitor, WalkError};

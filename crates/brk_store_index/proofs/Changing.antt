@@ -395,19 +395,17 @@ pub cash_row_added_if : {E : Type 0} (old : RowIndex) (cash : AgesByNumber) (row
 cash_row_added_if old cash row (Ok v) h = λ t is. cash_row_added old t is cash row h
 cash_row_added_if old cash row (Err e) h = tt
 
--- the tables of terms change, and no other
-abbrev pub ChangesTerms : (Tables → Tables) → Type 0
-ChangesTerms f = (t : Tables) → HasRowsOf (f t) t.holdings t.trades t.accounts t.holding_history t.moves t.last_trades
-
-pub terms_changed_if : {E : Type 0} (old : RowIndex) (terms : Terms) (f : Tables → Tables) → ChangesTerms f → (r : Result (Unit {0}) E)
-    → OnOk r ((t : Tables) → AreTermsOf old.terms t → AreTermsOf terms (f t))
-    → OnOk r ((t : Tables) → IsIndexOf old t → IsIndexOf (record old { terms = terms }) (f t))
-terms_changed_if old terms f same (Ok v) h = λ t is. with_terms old t is terms (f t) (same t) (h t is.terms)
-terms_changed_if old terms f same (Err e) h = tt
-
 pub of_change : {E : Type 0} (r : Result (Unit {0}) E) (old new : RowIndex) (change k : Change) → change ≡ k → OnOk r ((t : Tables) → IsIndexOf old t → IsIndexOf new (tables_after_change k t))
     → OnOk r ((t : Tables) → IsIndexOf old t → IsIndexOf new (tables_after_change change t))
 of_change r old new change k e h = subst (λ (c : Change). OnOk r ((t : Tables) → IsIndexOf old t → IsIndexOf new (tables_after_change c t))) (sym e) h
+
+-- a change of the tables of terms, and of no other
+pub terms_changed : {E : Type 0} (r : Result (Unit {0}) E) (old : RowIndex) (terms : Terms) (change k : Change) → change ≡ k
+    → ((t : Tables) → HasRowsOf (tables_after_change k t) t.holdings t.trades t.accounts t.holding_history t.moves t.last_trades)
+    → OnOk r ((t : Tables) → AreTermsOf old.terms t → AreTermsOf terms (tables_after_change k t))
+    → OnOk r ((t : Tables) → IsIndexOf old t → IsIndexOf (record old { terms = terms }) (tables_after_change change t))
+terms_changed (Ok v) old terms change k e same h = λ t is. rw e (with_terms old t is terms (tables_after_change k t) (same t) (h t is.terms))
+terms_changed (Err i) old terms change k e same h = tt
 
 -- ---- changes that the index does not follow
 

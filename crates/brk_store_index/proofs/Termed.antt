@@ -85,13 +85,15 @@ module _ {E : Type 0} (old : Terms) (r : Result (Unit {0}) E) where
       → OnOk r (bands.items ≡ insert_by (λ a b. is_row_key_less band_key (abstract_band a) (abstract_band b)) x old.bands.items)
       → OnOk r (Becomes (record old { bands = bands }) (tables_with_band b))
   band_added_if bands x b same put = ok_on r put
-      (λ p t are. have_rows _ are.charge_rows (inserted_as abstract_band (is_row_key_less band_key) x old.bands.items bands.items t.bands p are.band_rows ∙ ap (λ y. insert_by (is_row_key_less band_key) y t.bands) same) are.tax_rows are.customer_tax_rows are.customer_rows are.security_rows)
+      (λ p t are. have_rows _ are.charge_rows
+      (inserted_as abstract_band (is_row_key_less band_key) x old.bands.items bands.items t.bands p are.band_rows ∙ ap (λ y. insert_by (is_row_key_less band_key) y t.bands) same) are.tax_rows are.customer_tax_rows are.customer_rows are.security_rows)
 
   pub tax_added_if : (taxes : Vec tax.Tax) (x : tax.Tax) (y : TaxRate) → abstract_tax_rate x ≡ y
       → OnOk r (taxes.items ≡ insert_by (λ a b. is_row_key_less tax_rate_key (abstract_tax_rate a) (abstract_tax_rate b)) x old.taxes.items)
       → OnOk r (Becomes (record old { taxes = taxes }) (tables_with_tax_rate y))
   tax_added_if taxes x y same put = ok_on r put
-      (λ p t are. have_rows _ are.charge_rows are.band_rows (inserted_as abstract_tax_rate (is_row_key_less tax_rate_key) x old.taxes.items taxes.items t.tax_rates p are.tax_rows ∙ ap (λ z. insert_by (is_row_key_less tax_rate_key) z t.tax_rates) same) are.customer_tax_rows are.customer_rows are.security_rows)
+      (λ p t are. have_rows _ are.charge_rows are.band_rows
+      (inserted_as abstract_tax_rate (is_row_key_less tax_rate_key) x old.taxes.items taxes.items t.tax_rates p are.tax_rows ∙ ap (λ z. insert_by (is_row_key_less tax_rate_key) z t.tax_rates) same) are.customer_tax_rows are.customer_rows are.security_rows)
 
   pub customer_tax_added_if : (groups : AgesByNumber) (x : CustomerTax)
       → OnOk r ((q : ℕ) → InsertsAgeIf (x.customer == q) (ages_of_number old.customer_taxes q) (age_of_id x.tax) (ages_of_number groups q))

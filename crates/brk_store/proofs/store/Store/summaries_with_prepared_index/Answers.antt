@@ -7,7 +7,7 @@ use Rattle.brk_model.specs.Tables.{Tables}
 use Rattle.brk_ref.specs.Rows.{abstract_summary_row}
 use Rattle.brk_ref.specs.declared.summary_row.SummaryRow.{SummaryRow}
 use Rattle.brk_store_index.specs.Prices.{market_value_of_summary}
-use Rattle.brk_store.proofs.ValuesByIndex.{retold_by_index}
+use Rattle.brk_store.proofs.ValuesByIndex.{index_if_made, retold_by_index}
 use Rattle.brk_store.proofs.store.Store.summaries_with_prepared_index.Goals as goal
 
 abbrev IsValue : Option ℤ → Tables → List SummaryRow → Type 0
@@ -24,6 +24,6 @@ returns g c =
           (λ (all : Vec SummaryRow) (t : Tables). map abstract_summary_row all.items ≡ filter (λ (r : tables.SummaryRow). r.account == c.args.account) t.summaries)
           (λ (held : Vec SummaryRow × Option ℤ) (t : Tables).
           (map abstract_summary_row held.0.items ≡ filter (λ (r : tables.SummaryRow). r.account == c.args.account) t.summaries) × IsValue held.1 t held.0.items)
-          (λ t is has are. (are, subst (IsValue value t) c.deref.ensures.value (c.market_value-value.ensures (state g.S.Store conn).now t is has)))
+          (λ t is has are. (are, subst (IsValue value t) c.deref.ensures.value (c.market_value-value.ensures t (index_if_made index (state g.S.Store conn).now t is has))))
           c.in_ok-rows.ensures.read;
     }

@@ -1,14 +1,7 @@
-use Rattle.std.proofs.Common.{◌≡◌, ◌∙◌, ap, map, subst}
-use Rattle.std.specs.Global.{Vec}
-use Rattle.brk_model.specs.Tables.{Tables}
+use Rattle.std.proofs.Common.{◌≡◌, ◌∙◌, ap, subst}
 use Rattle.brk_ref.specs.Rows.{abstract_cash_row}
-use Rattle.brk_ref.specs.declared.cash_row.CashRow as row
-use Rattle.brk_store_index.specs.Index as group
-use Rattle.brk_store_transactions.specs.Holds.{ReadPost}
-use Rattle.brk_store_reads.specs.RowsOfAccounts.{AreCashRowsBetween}
 use Rattle.brk_store.specs.Walked.{WalkPost, cash_rows_in_span}
-use Rattle.brk_store.proofs.RowsOfAccounts.{cash_of_index}
-use Rattle.brk_store.proofs.TradesByIndex.{told_by_index}
+use Rattle.brk_store.proofs.RowsOfAccounts.{cash_read}
 use Rattle.brk_store.proofs.Visiting.{walk_of_read}
 use Rattle.brk_store.proofs.WalkedLists.{cash_walked}
 use Rattle.brk_store.proofs.store.Store.visit_cash_rows.Goals as goal
@@ -16,17 +9,10 @@ use Rattle.brk_store.proofs.store.Store.visit_cash_rows.Goals.{in-Made+else-are_
 
 pub returns-then-are_few-clause-walked : goal.returns-then-are_few-clause-walked
 returns-then-are_few-clause-walked g c =
-    let conn = c.self.inside.conn in
-    let end = c.read_cash_rows_between-rows.new.conn in
-    let ages = group.ages_at c.in-Made.index (group.CashRowsOfAccount c.args.account) in
-    let shows = λ (rows : Vec row.CashRow) (t : Tables). AreCashRowsBetween t.moves c.args.account c.args.from c.args.to ages rows.items in
-    let tells = λ (rows : Vec row.CashRow) (t : Tables). map abstract_cash_row rows.items ≡ cash_rows_in_span c.args.account c.args.from c.args.to t in
-    let read : ReadPost g.S.Store conn end c.read_cash_rows_between-rows.result shows = rw c.ages-ages.ensures at c.read_cash_rows_between-rows.ensures.read in
-    walk_of_read g.S.Store c.args.self.now end abstract_cash_row (cash_rows_in_span c.args.account c.args.from c.args.to) g.V.Visitor.takes g.V.Visitor.stops c.args.visitor.now c.visit_read_rows.new.visitor
+    walk_of_read g.S.Store c.args.self.now c.read_cash_rows_between-rows.new.conn abstract_cash_row (cash_rows_in_span c.args.account c.args.from c.args.to) g.V.Visitor.takes g.V.Visitor.stops c.args.visitor.now c.visit_read_rows.new.visitor
     c.read_cash_rows_between-rows.result c.visit_read_rows.result
-    (told_by_index g.S.Store conn end c.args.self.now c.self.view_is c.read_cash_rows_between-rows.result shows tells
-    (λ clean on t holds rows shown. cash_of_index g.S.Store conn c.in-Made.index (rw c.in-Made.is at c.self.invariant.1) clean on t holds c.args.account c.args.from c.args.to rows.items shown) read)
-    c.visit_read_rows.ensures.visited
+    (cash_read g.S.Store c.self.inside.conn c.in-Made.index (rw c.in-Made.is at c.self.invariant.1) c.read_cash_rows_between-rows.new.conn c.args.self.now c.self.view_is c.args.account c.args.from c.args.to c.read_cash_rows_between-rows.result
+    (rw c.ages-ages.ensures at c.read_cash_rows_between-rows.ensures.read)) c.visit_read_rows.ensures.visited
 
 pub returns-clause-walked : goal.returns-clause-walked
 returns-clause-walked g c =

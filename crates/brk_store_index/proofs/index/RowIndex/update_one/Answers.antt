@@ -1,8 +1,6 @@
-use Rattle.std.proofs.Common.{refl, rules}
+use Rattle.std.proofs.Common.{rules}
 use Rattle.brk_trade_rows.specs.declared.change.Change.TheVariants.{AddAccount, AddBand, AddCharge, AddCustomer, AddCustomerTax, AddLastTrade, AddLot, AddLotChange, AddMove, AddSecurity, AddTaxRate, AddTrade, CompleteTrade, RemoveLot, SetStatus}
-use Rattle.brk_ref.specs.Records.{abstract_band, abstract_charge, abstract_customer, abstract_customer_tax, abstract_security_row, abstract_tax_rate}
-use Rattle.brk_trade_rows.specs.Changes.{tables_with_band, tables_with_charge, tables_with_customer, tables_with_customer_tax, tables_with_security, tables_with_tax_rate}
-use Rattle.brk_store_index.proofs.Changing.{account_added_if, cash_row_added_if, kept, last_trade_added_if, last_trade_set, lot_added_if, lot_change_added_if, lot_removed_if, of_change, status_set_if, terms_changed_if, trade_added_if, trade_completed_if}
+use Rattle.brk_store_index.proofs.Changing.{account_added_if, cash_row_added_if, kept, last_trade_added_if, last_trade_set, lot_added_if, lot_change_added_if, lot_removed_if, of_change, status_set_if, terms_changed, trade_added_if, trade_completed_if}
 use Rattle.brk_store_index.proofs.index.RowIndex.update_one.Goals as goal
 
 pub returns-in-AddLot : goal.returns-in-AddLot
@@ -55,33 +53,27 @@ returns-in-SetLastTrade c t is = rw c.in-SetLastTrade.is (last_trade_set c.args.
 
 pub returns-in-AddCharge : goal.returns-in-AddCharge
 returns-in-AddCharge c =
-    of_change c.add_charge.result c.args.self.now (record c.args.self.now { terms = c.add_charge.new.self }) c.args.change.now (AddCharge c.in-AddCharge.charge) (search rules)
-    (terms_changed_if c.args.self.now c.add_charge.new.self (tables_with_charge (abstract_charge c.in-AddCharge.charge)) (λ t. record { lot_rows = refl; trade_rows = refl; account_rows = refl; lot_changes = refl; cash_rows = refl; last_trade_rows = refl }) c.add_charge.result c.add_charge.ensures)
+    terms_changed c.add_charge.result c.args.self.now c.add_charge.new.self c.args.change.now (AddCharge c.in-AddCharge.charge) (search rules) (λ t. search rules) c.add_charge.ensures
 
 pub returns-in-AddBand : goal.returns-in-AddBand
 returns-in-AddBand c =
-    of_change c.add_band.result c.args.self.now (record c.args.self.now { terms = c.add_band.new.self }) c.args.change.now (AddBand c.in-AddBand.band) (search rules)
-    (terms_changed_if c.args.self.now c.add_band.new.self (tables_with_band (abstract_band c.in-AddBand.band)) (λ t. record { lot_rows = refl; trade_rows = refl; account_rows = refl; lot_changes = refl; cash_rows = refl; last_trade_rows = refl }) c.add_band.result c.add_band.ensures)
+    terms_changed c.add_band.result c.args.self.now c.add_band.new.self c.args.change.now (AddBand c.in-AddBand.band) (search rules) (λ t. search rules) c.add_band.ensures
 
 pub returns-in-AddTaxRate : goal.returns-in-AddTaxRate
 returns-in-AddTaxRate c =
-    of_change c.add_tax.result c.args.self.now (record c.args.self.now { terms = c.add_tax.new.self }) c.args.change.now (AddTaxRate c.in-AddTaxRate.tax) (search rules)
-    (terms_changed_if c.args.self.now c.add_tax.new.self (tables_with_tax_rate (abstract_tax_rate c.in-AddTaxRate.tax)) (λ t. record { lot_rows = refl; trade_rows = refl; account_rows = refl; lot_changes = refl; cash_rows = refl; last_trade_rows = refl }) c.add_tax.result c.add_tax.ensures)
+    terms_changed c.add_tax.result c.args.self.now c.add_tax.new.self c.args.change.now (AddTaxRate c.in-AddTaxRate.tax) (search rules) (λ t. search rules) c.add_tax.ensures
 
 pub returns-in-AddCustomerTax : goal.returns-in-AddCustomerTax
 returns-in-AddCustomerTax c =
-    of_change c.add_customer_tax.result c.args.self.now (record c.args.self.now { terms = c.add_customer_tax.new.self }) c.args.change.now (AddCustomerTax c.in-AddCustomerTax.pays) (search rules)
-    (terms_changed_if c.args.self.now c.add_customer_tax.new.self (tables_with_customer_tax (abstract_customer_tax c.in-AddCustomerTax.pays)) (λ t. record { lot_rows = refl; trade_rows = refl; account_rows = refl; lot_changes = refl; cash_rows = refl; last_trade_rows = refl }) c.add_customer_tax.result c.add_customer_tax.ensures)
+    terms_changed c.add_customer_tax.result c.args.self.now c.add_customer_tax.new.self c.args.change.now (AddCustomerTax c.in-AddCustomerTax.pays) (search rules) (λ t. search rules) c.add_customer_tax.ensures
 
 pub returns-in-AddCustomer : goal.returns-in-AddCustomer
 returns-in-AddCustomer c =
-    of_change c.add_customer.result c.args.self.now (record c.args.self.now { terms = c.add_customer.new.self }) c.args.change.now (AddCustomer c.in-AddCustomer.customer) (search rules)
-    (terms_changed_if c.args.self.now c.add_customer.new.self (tables_with_customer (abstract_customer c.in-AddCustomer.customer)) (λ t. record { lot_rows = refl; trade_rows = refl; account_rows = refl; lot_changes = refl; cash_rows = refl; last_trade_rows = refl }) c.add_customer.result c.add_customer.ensures)
+    terms_changed c.add_customer.result c.args.self.now c.add_customer.new.self c.args.change.now (AddCustomer c.in-AddCustomer.customer) (search rules) (λ t. search rules) c.add_customer.ensures
 
 pub returns-in-AddSecurity : goal.returns-in-AddSecurity
 returns-in-AddSecurity c =
-    of_change c.add_security.result c.args.self.now (record c.args.self.now { terms = c.add_security.new.self }) c.args.change.now (AddSecurity c.in-AddSecurity.security) (search rules)
-    (terms_changed_if c.args.self.now c.add_security.new.self (tables_with_security (abstract_security_row c.in-AddSecurity.security)) (λ t. record { lot_rows = refl; trade_rows = refl; account_rows = refl; lot_changes = refl; cash_rows = refl; last_trade_rows = refl }) c.add_security.result c.add_security.ensures)
+    terms_changed c.add_security.result c.args.self.now c.add_security.new.self c.args.change.now (AddSecurity c.in-AddSecurity.security) (search rules) (λ t. search rules) c.add_security.ensures
 
 pub returns-in_default : goal.returns-in_default
 returns-in_default c t is =

@@ -1,0 +1,6 @@
+use Rattle.brk_store.proofs.KnownTerms.{known_is_read}
+use Rattle.brk_store.proofs.store.Store.commission_bands.Goals as goal
+
+pub returns-in-Some : goal.returns-in-Some
+returns-in-Some g c =
+    record { read = known_is_read g.S.Store c.self.inside.conn c.known_rows_if_open.new.conn c.args.self.now c.self.inside.index c.in-Some.bands c.self.view_is c.self.invariant.1 c.in-Some.ensures c.known_rows_if_open.ensures.read }
