@@ -5,16 +5,15 @@ use Rattle.std.specs.Global.{Vec}
 use Rattle.sqlite_trees.specs.declared.store.Store.{Ghosts}
 use Rattle.sqlite.specs.Held.{Held, state}
 use Rattle.brk_money.specs.Spelling.{Text}
-use Rattle.brk_model.specs.Tables.{HoldingRow, Tables}
+use Rattle.brk_model.specs.Tables.{HoldingRow}
 use Rattle.brk_lots.specs.Lots.{list_reversed_if_lifo}
 use Rattle.brk_ref.specs.Rows.{abstract_holding_row, lots_oldest_first}
 use Rattle.brk_ref.specs.declared.holding_row.HoldingRow as row
 use Rattle.brk_tables_trading.specs.Pages.{page_after_skipped}
-use Rattle.brk_tables.proofs.OneTables.{one_tables}
 use Rattle.brk_store_index.specs.declared.age.RowAge.{RowAge}
 use Rattle.brk_store_index.specs.declared.index.RowIndex.{RowIndex}
 use Rattle.brk_store_index.specs.Ages.{in_order}
-use Rattle.brk_store_index.specs.Index.{IsIndexOf, ages_at}
+use Rattle.brk_store_index.specs.Index.{ages_at}
 use Rattle.brk_store_index.specs.Index as group
 use Rattle.brk_store_index.proofs.PositionLots.{lots_found}
 use Rattle.brk_store_transactions.specs.Holds.{ReadPost}

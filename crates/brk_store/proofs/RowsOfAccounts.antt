@@ -1,5 +1,5 @@
 -- The lots and the cash rows of an account that are read by the index equal those of the tables.
-use Rattle.std.proofs.Common.{◌≡◌, ◌∙◌, ◌==◌, ◌&&◌, ◌+◌, ◌-◌, ◌<◌, ◌≤◌, ℕ, Bool, true, false, List, [], Result, drop, filter, length, map, refl, sym, ap, take, arith, inl, inr, eq-eqb}
+use Rattle.std.proofs.Common.{◌≡◌, ◌∙◌, ◌==◌, ◌&&◌, ◌+◌, ◌-◌, ◌<◌, ◌≤◌, ℕ, true, false, List, Result, drop, filter, length, map, refl, sym, ap, take, arith, inl, inr, eq-eqb}
 use Rattle.std.specs.Prelude.{nat_le}
 use Rattle.std.specs.Global.{Vec}
 use Rattle.std.proofs.Math.Nat.{min-le_left}
@@ -11,7 +11,7 @@ use Rattle.brk_model.specs.Keys.{is_row_key_less, rows_sorted_by_key}
 use Rattle.brk_model.specs.Limits.{is_in_range}
 use Rattle.brk_model.specs.Lists.{sort_by}
 use Rattle.brk_model.specs.Statement.{holding_rows_of_account}
-use Rattle.brk_model.specs.Tables.{CashRow, HoldingRow, Tables}
+use Rattle.brk_model.specs.Tables.{CashRow, HoldingRow}
 use Rattle.brk_ref.specs.Rows.{abstract_cash_row, abstract_holding_row}
 use Rattle.brk_ref.specs.declared.cash_row.CashRow as cash
 use Rattle.brk_ref.specs.declared.holding_row.HoldingRow as lot

@@ -20,7 +20,7 @@ use Rattle.brk_ref.specs.declared.account.AccountRow as account
 use Rattle.brk_ref.specs.declared.lot_change.LotChange as change
 use Rattle.brk_ref.specs.declared.trade_row.TradeRow as trade
 use Rattle.brk_tables.proofs.OneTables.{one_tables}
-use Rattle.brk_store_index.specs.Ages.{AreAgesOf, IsPlaceOfStamp, in_order}
+use Rattle.brk_store_index.specs.Ages.{AreAgesOf, in_order}
 use Rattle.brk_store_index.specs.Index.{IsIndexOf, ages_at, row_of_age, trade_of_age}
 use Rattle.brk_store_index.specs.Parts.{age_of_trade}
 use Rattle.brk_store_index.specs.Index as group

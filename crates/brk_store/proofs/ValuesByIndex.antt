@@ -1,5 +1,5 @@
 -- The market value of rows that were read, at the last prices of an index.
-use Rattle.std.proofs.Common.{◌≡◌, Ok, IsTrue, subst}
+use Rattle.std.proofs.Common.{◌≡◌, Ok, subst}
 use Rattle.sqlite_trees.specs.declared.store.Store.{Ghosts}
 use Rattle.sqlite.specs.Effect.{Database}
 use Rattle.sqlite.specs.Held.{Held, state}

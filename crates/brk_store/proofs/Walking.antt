@@ -12,8 +12,7 @@ use Rattle.brk_tables_views.specs.Walks as tables
 use Rattle.brk_tables_views.specs.Walks.{TableWalkEndsEarly, TakesListSatisfying, TableWalkPost}
 use Rattle.brk_tables_views.specs.declared.walking.WalkError.{WalkError}
 use Rattle.brk_tables_views.specs.declared.walking.WalkError.TheVariants.{Failed, Cause}
-use Rattle.brk_money.specs.declared.fault.Fault.{Fault}
-use Rattle.brk_store.specs.Walked.{CallsClosureWithEachRecord, EqualsStoredList, IsPrefixOfStoredList, MatchesWalkResult, WalkPost}
+use Rattle.brk_store.specs.Walked.{EqualsStoredList, IsPrefixOfStoredList, WalkPost}
 
 -- ---- one walk
 
@@ -97,11 +96,3 @@ is_walked_by {S} {X} {M} {V} {W} {E} g old new of list inner takes stops before 
     ends (Ok u) h = tt
     ends (Err (Failed fault)) h = h
     ends (Err (Cause e)) h = (inner h.0, h.1, h.2)
-
--- a walk of a visitor that has a closure calls the closure
-pub closure_called : {S X M V W E : Type 0} (g : Ghosts S) (old new : Held S) (of : X → M) (list : Tables → List M) (inner : W → V) (called : V → X → Result (Unit {0}) E → V → Type 0) (gives : Fault → E → Type 0)
-    (before after : W) (outcome : Result (Unit {0}) (WalkError E)) (result : Result (Unit {0}) E)
-    → WalkPost g old new of list (λ p x q. called (inner p) x (Ok tt) (inner q)) (λ p x e q. called (inner p) x (Err e) (inner q)) before after outcome → MatchesWalkResult gives outcome result
-    → CallsClosureWithEachRecord g old new of list called gives (inner before) result
-closure_called g old new of list inner called gives before after outcome result walked matches =
-    (inner after, outcome, is_walked_by g old new of list inner (λ p x q. called p x (Ok tt) q) (λ p x e q. called p x (Err e) q) before after outcome walked, matches)

@@ -3,7 +3,7 @@
 //! `Store` also if a row is malformed or if the `sqlite` crate runs out of memory, and a read of a
 //! single row also if its decoding does. A crash after a read exposes only states that a crash
 //! before it could expose.
-#![tactic(auto, using(brk_store_transactions::proofs::Ending::read_is_over, crate::proofs::KeptIndex::read_keeps_index, crate::proofs::KnownTerms::known_is_read))]
+#![tactic(auto, using(brk_store_transactions::proofs::Ending::read_is_over, crate::proofs::KeptIndex::read_keeps_index))]
 
 ghost use Rattle.std.specs.Prelude.{◌≡◌, ◌==◌, ◌&&◌, bytes_eq};
 ghost use Rattle.brk_ref.specs.Records.{abstract_account_row, abstract_broker_row, abstract_customer, abstract_kept_row};

@@ -1,5 +1,4 @@
-use Rattle.std.proofs.Common.{◌≡◌, Ok, refl, rules}
-use Rattle.sqlite.specs.Held.{state}
+use Rattle.std.proofs.Common.{◌≡◌, refl, rules}
 use Rattle.brk_model.specs.Tables.{Tables}
 use Rattle.brk_store_reads.specs.ReadSequences.{IsUnchangedByReads}
 use Rattle.brk_store_reads.proofs.Sequences.{none_read, reads_are_read}

@@ -1,4 +1,4 @@
-use Rattle.std.proofs.Common.{◌≡◌, ◌∙◌, map}
+use Rattle.std.proofs.Common.{◌∙◌, map}
 use Rattle.brk_ref.specs.Records.{abstract_customer_tax}
 use Rattle.brk_store_index.specs.IfMade.{AreTaxesByAge}
 use Rattle.brk_store_index.proofs.Termed.{customer_taxes_found}
