@@ -5,6 +5,7 @@ pub mod Computed
 pub mod Explained
 pub mod Frames
 pub mod Outcomes
+pub mod Overwritten
 pub mod Placed
 pub mod Printed
 pub mod Sequence

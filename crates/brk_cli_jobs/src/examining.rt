@@ -116,7 +116,7 @@ fn read_start(rt: &HostRuntime, path: &str) -> io::Result<Vec<u8>> {
 }
 
 // Returns the path of the log, beside the file itself if `path` is a link.
-fn log_path(rt: &HostRuntime, path: &str) -> io::Result<String> {
+pub(crate) fn log_path(rt: &HostRuntime, path: &str) -> io::Result<String> {
     match fs::canonicalize(rt, path) {
         Ok(real) => Ok(format!(in rt.alloc(); "{}-wal", real.as_str())?),
         Err(error) if error.kind() == ErrorKind::NotFound => {

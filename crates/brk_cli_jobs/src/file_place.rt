@@ -5,6 +5,7 @@ ghost use Rattle.brk_cli_jobs.specs.Files.{HasLastCommitInFile};
 ghost use Rattle.brk_money.specs.declared.fault.StoreFailed.{StoreFailed};
 
 use crate::examining::may_open_or_create;
+use crate::log_writing::write_log_again;
 use brk_money::StoreFailed;
 use sqlite::{Connection, File, FileStore};
 use std::fs;
@@ -85,7 +86,7 @@ impl FilePlace for MachinePlace<'_> {
     /// Fails, and leaves the file and its log as they are, if the file is neither a database nor
     /// what a creation that was stopped leaves, or if none was made yet and its log has a commit.
     fn connect(&self, path: &str) -> Result<Connection<FileStore<File>>, StoreFailed> {
-        if !may_open_or_create(self.rt, path) {
+        if !may_open_or_create(self.rt, path) || write_log_again(self.rt, path).is_err() {
             return Err(StoreFailed);
         }
         match Connection::open(self.rt, path) {

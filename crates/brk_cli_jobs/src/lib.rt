@@ -11,6 +11,7 @@ mod explain;
 pub mod file;
 pub mod file_place;
 pub mod jobs;
+mod log_writing;
 pub mod machine;
 pub mod pipe;
 mod reopening;

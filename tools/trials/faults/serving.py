@@ -284,6 +284,11 @@ class Reopening:
         kept = range(self.failed + 1, self.answered)
         return [call for at, call in enumerate(self.calls) if at not in kept or call.letter not in letters]
 
+    def without_rewriting(self):
+        """The calls without the writes of the log between the sync that failed and the first write to the file."""
+        again = range(self.failed + 1, self.copying.start)
+        return [call for at, call in enumerate(self.calls) if at not in again or (call.letter, call.kind) != ("w", "w")]
+
 
 def try_faults(sweep, title, job, cases):
     """Lets calls of a server fail: it comes back or ends, and no row is lost or booked twice."""

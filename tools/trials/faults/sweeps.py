@@ -62,12 +62,6 @@ class Sweep:
             self.wrong += 1
         print(f"{'ok   ' if wrongs else 'WRONG'} control, {title}: {len(wrongs)} of {len(cases)} found wrong, as they have to be", flush=True)
 
-    def known(self, title, cases, one):
-        """Tries cases of which some may be wrong, as docs/laboratory/failures.md says, and prints how many are."""
-        cases = list(cases)
-        _, wrongs = self.tally(cases, one, sys.maxsize)
-        print(f"known {title}: {len(wrongs)} of {len(cases)} wrong, not counted", flush=True)
-
     def end(self, what):
         print(f"{self.tried} {what}, {self.wrong} wrong")
         return 1 if self.wrong else 0
