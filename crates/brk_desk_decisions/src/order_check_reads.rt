@@ -3,7 +3,7 @@
 
 ghost use Rattle.std.specs.Prelude.{◌≡◌, IfSome, option_map};
 ghost use Rattle.brk_money.specs.OrderTypes.{trade_type_of_order_type};
-ghost use Rattle.brk_trade_books.specs.OrderReads.{charge_of_type_and_tier, last_price_of_symbol};
+ghost use Rattle.brk_trade_books.specs.OrderReads.{charge_of_type_and_tier};
 ghost use Rattle.brk_trade_books.specs.TradeReads.{commission_band_of_quantity, permission_list_for_tax_id};
 ghost use Rattle.brk_desk_decisions.specs.OrderFactReads.{CustomerOrderFactsMatchTables};
 ghost use Rattle.brk_model.specs.Joins.{security_row_with_symbol};
@@ -12,7 +12,7 @@ ghost use Rattle.brk_ref.specs.Records.{abstract_customer, abstract_executor};
 ghost use Rattle.brk_store_transactions.specs.Holds.{ReadPost};
 
 use brk_money::{CallFault, Id, Price, Qty, Rate, TradeType};
-use brk_ref::{ChargeAmount, Customer, Exchange, Executor, Symbol, Tier, band_for, permitted};
+use brk_ref::{ChargeAmount, Customer, Exchange, Executor, Tier, band_for, permitted};
 use brk_ref_orders::Order;
 use brk_store::Store;
 use sqlite::Alter;
@@ -31,18 +31,6 @@ pub struct OrderCheckFacts {
     /// The commission rate of the band of the order's quantity, in hundredths of a percent, or
     /// `None` if there is no such band.
     pub rate: Option<Rate>,
-}
-
-fn read_last_price<S: Alter>(
-    store: &mut Store<S>,
-    symbol: &Symbol,
-) -> Result<Option<Price>, CallFault>
-    ensures { ReadPost S.Store store.old store.new result (λ price t. price ≡ last_price_of_symbol t symbol.now) }
-{
-    match store.last_trade(symbol)? {
-        Some(last) => Ok(Some(last.price)),
-        None => Ok(None),
-    }
 }
 
 // Of the account's permissions, only that for the executor's tax id can permit the executor.
@@ -127,7 +115,7 @@ pub(crate) fn order_check_facts<S: Alter>(
     ensures { ReadPost S.Store store.old store.new result (λ tested t. CustomerOrderFactsMatchTables t order.now customer.now tested) }
 {
     let tier = customer.tier;
-    let last_price = read_last_price(store, &order.symbol)?;
+    let last_price = store.last_price(&order.symbol)?;
     let is_permitted = is_executor_permitted(store, order.account, customer, &order.executor)?;
     let charge = charge_of_tier(store, order.order_type.kind(), tier)?;
     let rate = read_order_rate(alloc, store, order, tier)?;

@@ -11,11 +11,13 @@ ghost use Rattle.brk_money.specs.declared.status.Status.TheVariants.{Submitted};
 ghost use Rattle.brk_ref.specs.Records.{abstract_last_trade_row};
 ghost use Rattle.brk_ref.specs.Rows.{abstract_request_row, abstract_trade_row};
 ghost use Rattle.brk_store_transactions.specs.Holds.{ReadPost};
+ghost use Rattle.brk_trade_books.specs.OrderReads.{last_price_of_symbol};
 ghost use Rattle.brk_tables_schema.specs.Desk.{LastTrades, Requests, Trades};
 ghost use Rattle.brk_tables_schema.specs.Statements.{IsFirstMatch, AreMatchingRows};
 
 use crate::Store;
-use brk_money::{CallFault, Id, StoreFailed};
+use crate::known::known_if_open;
+use brk_money::{CallFault, Id, Price, StoreFailed};
 use brk_ref::{LastTrade, RequestRow, Symbol, TradeRow};
 use brk_store_index::{Group, StoreIndex};
 use brk_store_reads::by_age::read_all_rows;
@@ -23,6 +25,15 @@ use brk_store_reads::trades_by_age::SubmittedTrades;
 use brk_store_transactions::begin_transaction;
 use sqlite::Alter;
 use std::alloc::Global;
+
+fn price_of(last: Option<LastTrade>) -> Option<Price>
+    ensures { result ≡ option_map (λ r. r.price) (option_map abstract_last_trade_row last) }
+{
+    match last {
+        Some(last) => Some(last.price),
+        None => None,
+    }
+}
 
 impl<S: Alter> Store<S> {
     /// Returns the trade with the id.
@@ -71,6 +82,18 @@ impl<S: Alter> Store<S> {
     {
         let mut tx = begin_transaction(&mut self.conn);
         brk_tables_trading::last_trade_by_symbol(&mut tx, symbol)
+    }
+
+    /// Returns the price of the last trade of a symbol on the market or, before the first tick, of its
+    /// listing, in cents.
+    pub fn last_price(&mut self, symbol: &Symbol) -> Result<Option<Price>, StoreFailed>
+        ensures read { ReadPost S.Store self.old self.new result (λ price t. price ≡ last_price_of_symbol t symbol.now) }
+    {
+        if let Some(price) = self.index.last_price(symbol) {
+            return known_if_open(&mut self.conn, price);
+        }
+        let last = self.last_trade(symbol)?;
+        Ok(price_of(last))
     }
 
     /// Returns all rows of TRADE_REQUEST, which are of the pending trades, sorted by trade,

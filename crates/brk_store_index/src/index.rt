@@ -1,6 +1,6 @@
 //! The index: made of rows, updated by row changes, and read by group.
 
-ghost use Rattle.std.specs.Prelude.{◌≡◌, ◌==◌, ℕ, IfOk, IfSome, OnOk, map};
+ghost use Rattle.std.specs.Prelude.{◌≡◌, ◌==◌, ℕ, IfOk, IfSome, OnOk, bytes_eq, find, map, option_map};
 ghost use Rattle.std.specs.Option.{option_copied};
 ghost use Rattle.brk_money.specs.Kinds.{is_same_trade_status};
 ghost use Rattle.brk_money.specs.declared.status.Status.TheVariants.{Submitted};
@@ -24,8 +24,10 @@ use crate::lots::LotGroups;
 use crate::prices::LastPrices;
 use crate::terms::Terms;
 use crate::trades::TradeGroups;
-use brk_money::{Status, Wide};
-use brk_ref::{AccountRow, CashRow, HoldingRow, LastTrade, LotChange, SummaryRow, TradeRow};
+use brk_money::{Price, Status, Wide};
+use brk_ref::{
+    AccountRow, CashRow, HoldingRow, LastTrade, LotChange, SummaryRow, Symbol, TradeRow,
+};
 use brk_trade_rows::Change;
 use std::alloc::Global;
 use std::collections::VecDeque;
@@ -188,6 +190,13 @@ impl RowIndex {
         ensures { result.now ≡ self.now.terms }
     {
         &self.terms
+    }
+
+    /// Returns the last price of the security, in cents.
+    pub fn last_price(&self, symbol: &Symbol) -> Option<Price>
+        ensures { (t : Tables) → IsIndexOf self.now t → result ≡ option_map (λ r. r.price) (find (λ r. bytes_eq r.symbol symbol.now) t.last_trades) }
+    {
+        self.prices.price(symbol)
     }
 
     /// Returns the market value of holdings at last prices, in cents; shares that were sold short

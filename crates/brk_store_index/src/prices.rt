@@ -45,7 +45,7 @@ impl LastPrices {
         }
     }
 
-    fn price(&self, symbol: &Symbol) -> Option<Price>
+    pub(crate) fn price(&self, symbol: &Symbol) -> Option<Price>
         ensures { result ≡ price_of_symbol self.now symbol.now }
     {
         self.prices.get(symbol.as_str()).copied()

@@ -12,7 +12,7 @@ ghost use Rattle.brk_store_index.specs.Terms.{AreTermsOf};
 
 use crate::index::RowIndex;
 use crate::terms::Terms;
-use brk_money::{Id, TradeType, Wide};
+use brk_money::{Id, Price, TradeType, Wide};
 use brk_ref::{
     Band, Charge, Customer, CustomerTax, Exchange, Security, SummaryRow, Symbol, Tax, Tier,
 };
@@ -39,6 +39,17 @@ impl StoreIndex {
     {
         match self {
             StoreIndex::Made(index) => index.market_value(rows),
+            StoreIndex::Unmade | StoreIndex::Absent => None,
+        }
+    }
+
+    /// Returns the last price of the security, in cents.
+    pub fn last_price(&self, symbol: &Symbol) -> Option<Option<Price>>
+        ensures { IfSome result (λ price. (t : Tables) → IsIndexIfMade self.now t
+            → price ≡ option_map (λ r. r.price) (find (λ r. bytes_eq r.symbol symbol.now) t.last_trades)) }
+    {
+        match self {
+            StoreIndex::Made(index) => Some(index.last_price(symbol)),
             StoreIndex::Unmade | StoreIndex::Absent => None,
         }
     }

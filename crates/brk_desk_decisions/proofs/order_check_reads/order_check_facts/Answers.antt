@@ -32,11 +32,11 @@ returns g c =
     (abstract_executor order.executor) in
     let charge_read : Tables → Type 0 = λ t. charge ≡ charge_of_type_and_tier t (trade_type_of_order_type order.order_type) customer.tier in
     let one =
-    read_with g.S.Store old c.read_last_price.new.store c.is_executor_permitted.new.store {X = Unit {0}} {H = CallFault} last_price is_permitted tt
+    read_with g.S.Store old c.last_price.new.self c.is_executor_permitted.new.store {X = Unit {0}} {H = CallFault} last_price is_permitted tt
     (λ price (t : Tables). price ≡ last_price_of_symbol t order.symbol)
     (λ is (t : Tables). is ≡ is_customer_or_has_permission (abstract_customer customer) (permission_list_for_tax_id t order.account order.executor.tax_id) (abstract_executor order.executor))
     (λ _ t. price_read t × permission_read t) (λ t a b. (a, b))
-    c.in_ok-last_price.ensures c.in_ok-is_permitted.ensures in
+    c.in_ok-last_price.ensures.read c.in_ok-is_permitted.ensures in
     let two =
     read_with g.S.Store old c.is_executor_permitted.new.store c.charge_of_tier.new.store {X = Unit {0}} {H = CallFault} tt charge tt
     (λ _ t. price_read t × permission_read t) (λ charge (t : Tables). charge ≡ charge_of_type_and_tier t (trade_type_of_order_type order.order_type) customer.tier)
@@ -56,16 +56,16 @@ pub returns-in_err-is_permitted : goal.returns-in_err-is_permitted
 returns-in_err-is_permitted g c =
     let old = c.args.store.now in
     let p = err_from_is_err_and c.from_residual-in_err-is_permitted.result c.from_residual-in_err-is_permitted.ensures.1 in
-    rw p.1 (failed_after g.S.Store old c.read_last_price.new.store c.is_executor_permitted.new.store _ p.0 _ _
-    (single_read_changes_nothing old c.read_last_price.new.store _ _ c.in_ok-last_price.ensures) c.in_err-is_permitted.ensures)
+    rw p.1 (failed_after g.S.Store old c.last_price.new.self c.is_executor_permitted.new.store _ p.0 _ _
+    (single_read_changes_nothing old c.last_price.new.self _ _ c.in_ok-last_price.ensures.read) c.in_err-is_permitted.ensures)
 
 pub returns-in_err-charge : goal.returns-in_err-charge
 returns-in_err-charge g c =
     let old = c.args.store.now in
     let p = err_from_is_err_and c.from_residual-in_err-charge.result c.from_residual-in_err-charge.ensures.1 in
     rw p.1 (failed_after g.S.Store old c.is_executor_permitted.new.store c.charge_of_tier.new.store _ p.0 _ _
-    (unchanged_after g.S.Store old c.read_last_price.new.store c.is_executor_permitted.new.store _ _
-    (single_read_changes_nothing old c.read_last_price.new.store _ _ c.in_ok-last_price.ensures) c.in_ok-is_permitted.ensures)
+    (unchanged_after g.S.Store old c.last_price.new.self c.is_executor_permitted.new.store _ _
+    (single_read_changes_nothing old c.last_price.new.self _ _ c.in_ok-last_price.ensures.read) c.in_ok-is_permitted.ensures)
     c.in_err-charge.ensures)
 
 pub returns-in_err-rate : goal.returns-in_err-rate
@@ -74,6 +74,6 @@ returns-in_err-rate g c =
     let p = err_from_is_err_and c.from_residual-in_err-rate.result c.from_residual-in_err-rate.ensures.1 in
     rw p.1 (failed_after g.S.Store old c.charge_of_tier.new.store c.read_order_rate.new.store _ p.0 _ _
     (unchanged_after g.S.Store old c.is_executor_permitted.new.store c.charge_of_tier.new.store _ _
-    (unchanged_after g.S.Store old c.read_last_price.new.store c.is_executor_permitted.new.store _ _
-    (single_read_changes_nothing old c.read_last_price.new.store _ _ c.in_ok-last_price.ensures) c.in_ok-is_permitted.ensures)
+    (unchanged_after g.S.Store old c.last_price.new.self c.is_executor_permitted.new.store _ _
+    (single_read_changes_nothing old c.last_price.new.self _ _ c.in_ok-last_price.ensures.read) c.in_ok-is_permitted.ensures)
     c.in_ok-charge.ensures) c.in_err-rate.ensures)
