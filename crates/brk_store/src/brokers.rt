@@ -1,8 +1,5 @@
 //! Reads of brokers by name, of the accounts of a broker, and of all accounts; the broker with an id
-//! is read in `reading`, its totals in `numbers`. Each read begins a transaction and ends it without
-//! a commit (no clause states this). A read fails with `Store` also if a row is malformed or if the
-//! `sqlite` crate runs out of memory. A crash after a read exposes only states that a crash before
-//! it could expose.
+//! is read in `reading`, its totals in `numbers`.
 #![tactic(auto, using(brk_store_transactions::proofs::Ending::read_is_over, crate::proofs::KeptIndex::read_keeps_index))]
 
 ghost use Rattle.std.specs.Prelude.{◌≡◌, ◌==◌, bytes_eq, filter, map};

@@ -1,7 +1,4 @@
-//! Reads of cash rows and of the first day of one-day settlement. Each read of the database begins
-//! a transaction and ends it without a commit (no clause states this). A read fails with `Store`
-//! also if a row is malformed, or if the `sqlite` crate or the decoding of a row runs out of
-//! memory. A crash after a read exposes only states that a crash before it could expose.
+//! Reads of cash rows and of the first day of one-day settlement.
 #![tactic(auto, using(brk_store_transactions::proofs::Ending::read_is_over, crate::proofs::KeptIndex::read_keeps_index))]
 
 ghost use Rattle.std.specs.Prelude.{◌≡◌, ◌+◌, filter, is_none, length, nat_le, option_map, reverse, slice_get};

@@ -1,5 +1,10 @@
 //! The store of a desk: the creation, the adoption and the audit of its database, reads of its
 //! rows, and changes of its rows in transactions.
+//!
+//! A read of the database begins a transaction and ends it without a commit (no clause states this).
+//! It fails with `Store` also if a row is malformed, if the `sqlite` crate runs out of memory or, if
+//! it returns a single row, if its decoding does. A crash after a read exposes only states that a
+//! crash before it could expose.
 #![tactic(auto)]
 
 mod adoption;

@@ -1,6 +1,4 @@
-//! Reads of the balance of an account and of the totals in the row of a broker. A read fails with
-//! `Store` also if a row is malformed, or if the `sqlite` crate or the decoding of a row runs out
-//! of memory. A crash after a read exposes only states that a crash before it could expose.
+//! Reads of the balance of an account and of the totals in the row of a broker.
 
 ghost use Rattle.std.specs.Prelude.{IfSome, IfNone, ℕ, ◌≤◌, pos, ◌≡◌, ◌==◌, Err, OnErr, find, option_map};
 ghost use Rattle.brk_money.specs.declared.fault.Fault.TheVariants as fault;

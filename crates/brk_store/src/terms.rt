@@ -1,9 +1,5 @@
-//! Reads of permissions, securities, charges, commission bands and taxes. Charges, bands and taxes
-//! are read from memory if the store has an index. Each other read begins a transaction and ends it
-//! without a commit (no clause states this). A read fails with `Store` also if a row is malformed or
-//! if the `sqlite` crate runs out of memory, and a read of a single row also if its decoding does. A
-//! crash after a read exposes only states that a crash before it could
-//! expose.
+//! Reads of permissions, securities, charges, commission bands and taxes. All but permissions and a
+//! single tax of a customer are read from memory if the store has an index.
 #![tactic(auto, using(brk_store_transactions::proofs::Ending::read_is_over, crate::proofs::KeptIndex::read_keeps_index))]
 
 ghost use Rattle.std.specs.Prelude.{◌==◌, ◌&&◌, bytes_eq};

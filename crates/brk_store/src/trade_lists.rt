@@ -1,7 +1,4 @@
-//! Reads for the views of an account's trades. Each read begins a transaction and ends it without a
-//! commit (no clause states this). A read fails with `Store` also if a row is malformed or if the
-//! `sqlite` crate runs out of memory. A crash after a read exposes only states that a crash before
-//! it could expose.
+//! Reads for the views of an account's trades.
 #![tactic(auto, using(brk_store_transactions::proofs::Ending::read_is_over, crate::proofs::KeptIndex::read_keeps_index))]
 
 ghost use Rattle.std.specs.Prelude.{◌≡◌, ◌==◌, map, take};

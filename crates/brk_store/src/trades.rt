@@ -1,8 +1,4 @@
-//! Reads of trades, of the requests of pending trades, and of last trades on the market. Each read
-//! begins a transaction and ends it without a commit (no clause states this). A read fails with
-//! `Store` also if a row is malformed or if the `sqlite` crate runs out of memory, and a read of a
-//! single row also if its decoding does. A crash after a read exposes only states that a crash
-//! before it could expose.
+//! Reads of trades, of the requests of pending trades, and of last trades on the market.
 #![tactic(auto, using(brk_store_transactions::proofs::Ending::read_is_over, crate::proofs::KeptIndex::read_keeps_index))]
 
 ghost use Rattle.std.specs.Prelude.{◌≡◌, ◌==◌, bytes_eq, map, option_map, reverse, slice_get};

@@ -1,7 +1,4 @@
-//! Reads of trades of any status by the stamps of their last status. Each read begins a transaction
-//! and ends it without a commit (no clause states this). A read fails with `Store` also if a row is
-//! malformed or if the `sqlite` crate runs out of memory, and a read of a single row also if its
-//! decoding does. A crash after a read exposes only states that a crash before it could expose.
+//! Reads of trades of any status by the stamps of their last status.
 #![tactic(auto, using(brk_store_transactions::proofs::Ending::read_is_over, crate::proofs::KeptIndex::read_keeps_index))]
 
 ghost use Rattle.std.specs.Prelude.{◌≡◌, ◌==◌, ◌&&◌, bytes_eq, filter, map, nat_le, option_map, option_to_list, take};
