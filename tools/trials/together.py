@@ -5,8 +5,9 @@ check reads the crate with up to MOST edits, and proves the functions that they 
 mutant is rejected if the prover reports an error in its function or in the answers of that function. A mutant for which it reports none, or
 only that a name is missing, which says nothing of a contract, is tried alone, by the kit's `must_fail`, which proves the whole crate.
 
-It calls functions of the kit's rt (tried on kit 13b) over the libraries in the folders out/ of the tree, which `rt ci`, `./brk` or `rt check`
-built."""
+It calls functions of the kit's rt (tried on kits 13b and 13f) over the libraries in the folders out/ of the tree, which `rt ci`, `./brk` or
+`rt check` built."""
+import hashlib
 import inspect
 import os
 import re
@@ -205,17 +206,74 @@ def errors_of_edits(rt, crate, mutants):
             waiting = again
 
 
+def results_of(rt, crate, paths):
+    """Yields each edit with what is said if it is rejected by a check of its function, or with nothing."""
+    for mutant, error in errors_of_edits(rt, crate, [Edit(crate.folder, it) for it in paths]):
+        yield mutant.path, error and f'must-fail {crate.name}/{mutant.name}.edit: refused, as it must be: {error[:160]}'
+
+
 def must_fail_all(rt):
-    """What the kit's function of that name does, by as few checks as there are mutants of one function, for its `rt ci`."""
+    """What the function of that name of a kit that keeps nothing does for its `rt ci`, by as few checks as there are mutants of one function."""
 
     def tried(crate, paths, flags):
-        label = f'must-fail {crate.name}/'
-        mutants = [Edit(crate.folder, it) for it in paths]
-        said = {mutant.path: (True, f'{label}{mutant.name}.edit: refused, as it must be: {error[:160]}')
-                for mutant, error in errors_of_edits(rt, crate, mutants) if error}
+        said = {path: (True, text) for path, text in results_of(rt, crate, paths) if text}
         return [said.get(it) or rt.must_fail(crate, it, flags) for it in paths]
 
     return tried
+
+
+class Kept:
+    """What earlier runs on this machine said of the mutants of a crate, as a kit that keeps what passed has it (its class of that name). A mutant that the
+    kit tried has the kit's own name there. One that was tried together with others has a name of its own, which the kit does not look for."""
+
+    def __init__(self, kept, crate, paths):
+        self.kept, self.crate = kept, crate
+        key = kept.key(crate)
+        self.sums = {True: f'{key} {sum_of_scripts()}', False: key}
+        self.names = self.named(paths)
+        found = {path: next(filter(None, map(kept.tried, names.values())), None) for path, names in self.names.items()}
+        self.known = {path: it for path, it in found.items() if it}
+
+    def named(self, paths):
+        """The names of each mutant: for a try together with others, and for one alone."""
+        return {path: {is_together: self.kept.of_edit(path, it) for is_together, it in self.sums.items()} for path in paths}
+
+    def keep(self, path, is_together, result):
+        """Keeps a result, unless a file that it rests on was changed meanwhile."""
+        if self.kept.is_untouched(self.crate) and self.named([path])[path] == self.names[path]:
+            self.kept.keep_tried(self.names[path][is_together], *result)
+
+
+def sum_of_scripts():
+    """A sum of the scripts that decide whether a mutant is rejected."""
+    return hashlib.sha256(''.join(edits.read(it) for it in (os.path.realpath(__file__), edits.__file__)).encode()).hexdigest()
+
+
+def add_edits(rt):
+    """What the function of that name of a kit that keeps what passed does for its `rt ci`: one task tries the mutants of a crate, once it is proved. Those that
+    an earlier run tried, together or alone, are not tried again."""
+
+    def added(tasks, crate, paths, first, waits, is_well, kept, start=None, in_ci=True):
+        found, known = {}, {}
+
+        def work(given, jobs):
+            if not paths or not is_well(given):
+                return
+            earlier = Kept(kept, crate, paths)
+            known.update(earlier.known)
+            found.update(known)
+            new = [it for it in paths if it not in known]
+            is_well(given, len(new))
+            for path, text in results_of(rt, crate, new):
+                result = (rt.REFUSED, text) if text else rt.must_fail(crate, path, FLAGS)
+                found[path] = result
+                if result[0] in rt.SETTLED:
+                    earlier.keep(path, bool(text), result)
+
+        tasks[crate.name, 'edits', 0] = (waits, crate.count(rb'\n'), rt.need(crate), work)
+        return lambda given: [found[it] for it in paths], lambda: known
+
+    return added
 
 
 class Trial:
