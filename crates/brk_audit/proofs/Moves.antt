@@ -30,7 +30,7 @@ use Rattle.brk_audit.proofs.Places.{all_back, all_front}
 abbrev pub count : {X : Type 0} → (X → ℕ) → ℕ → List X → ℕ
 count n k xs = sum_by (λ x. cond (n x == k) 1 0) xs
 
--- no number stands twice
+-- no number occurs twice
 abbrev pub Unique : List ℕ → Type 0
 Unique [] = ⊤
 Unique (k ∷ ks) = AllByRecursion (λ j. k ≢ j) ks × Unique ks

@@ -174,7 +174,7 @@ rows_right r id (a ∷ b ∷ c ∷ d ∷ hs) t e = false_true e
 
 -- ---- together
 
--- what stands of a trade in the history
+-- the rows of a trade in the history
 of_trade : (t : Tables) (id : ℕ) → AllByRecursion (λ h. h.trade ≡ id) (history_rows_with_trade_id t id)
 of_trade t id = All-map (history_rows_with_trade_id t id) (λ h e. eqb-true h.trade id e) (all_pass (λ h. h.trade == id) t.history)
 

@@ -36,7 +36,7 @@ row_status t r status e =
     let l : Lasts t r = lasts t r e in
     ap (λ o. option_map_or (λ m. is_same_trade_status m.status status) o false) l.is ∙ ap (λ s. is_same_trade_status s status) (sym (same_statuses r.status l.mark.status l.status))
 
--- and it came to it at the stamp of its row
+-- and it was completed at the stamp of its row
 pub row_moment : (t : Tables) (r : TradeRow) → has_valid_status_history t r ≡ true → last_status_stamp_of_trade (trade_of_row t r) ≡ r.stamp
 row_moment t r e = let l : Lasts t r = lasts t r e in ap (λ o. option_map_or (λ m. m.stamp) o 0) l.is ∙ sym l.stamp
 
@@ -54,6 +54,6 @@ pending_rows t s =
     filter-map (has_last_status Pending) (trade_of_row t) t.trades
     ∙ ap (map (trade_of_row t)) (filter-same (λ r. has_last_status Pending (trade_of_row t r)) is_pending_trade_row t.trades (All-map t.trades (λ r e. row_status t r Pending e) (right_rows t s)))
 
--- each completed trade came to that at the stamp of its row
+-- each completed trade was completed at the stamp of its row
 pub done_moments : (t : Tables) → satisfies_status_condition t ≡ true → AllByRecursion (λ r. last_status_stamp_of_trade (trade_of_row t r) ≡ r.stamp) (completed_trade_rows t)
 done_moments t s = All-map (completed_trade_rows t) (row_moment t) (All-filter (λ r. has_valid_status_history t r ≡ true) is_completed_trade_row t.trades (right_rows t s))

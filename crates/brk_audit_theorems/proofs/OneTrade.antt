@@ -49,7 +49,7 @@ rising_more (m ∷ o ∷ ms) n e h =
     let p = and_parts (nat_lt m o) (is_strictly_ascending (o ∷ ms)) e in
     and_from (nat_lt m o) (is_strictly_ascending (o ∷ ms ++ n ∷ [])) p.0 (rising_more (o ∷ ms) n p.1 h.1)
 
--- the stamps of a trade that comes to a status at the next stamp
+-- the stamps of a trade that gets a status at the next stamp
 pub stamps_more : (base : Base) (now : ℕ) (status : Status) (t : Trade) → HasAscendingStatusStamps t
     → AllByRecursion (StatusStampIsAtMostLastStamp base.last) t.marks
     → HasAscendingStatusStamps (trade_with_status_change (stamp_of_next_command base now) status t)

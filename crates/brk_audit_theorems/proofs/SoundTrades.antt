@@ -156,7 +156,7 @@ sound_order base now o k books form e =
     (All-append (BaseTradeAuditInvariant (record c { trades = ts })) base.trades (t ∷ []) l.trades (ordered_sound base stamp o ts (next_is_id (length base.trades) p.1.1.1.1.1.0) k form known, tt))
     (ordered_done base stamp o)
 
--- ---- a trade that waited comes to another status
+-- ---- a pending or submitted trade gets another status
 
 stamps_below : (stamp : ℕ) (status : Status) (t : Trade) → HasAscendingStatusStamps t → AllByRecursion (λ m. m.stamp < stamp) t.marks
     → HasAscendingStatusStamps (trade_with_status_change stamp status t)

@@ -204,7 +204,7 @@ unseen r id (q ∷ qs) k = by_own (is_cash_row_of_trade id q) refl k (unseen r i
     by_own true f k ih = absurd k
     by_own false f k ih = by_other q.trade f (ih k)
 
--- where each trade has at most one of some rows, none stands twice among their trades
+-- where each trade has at most one of some rows, none occurs twice among their trades
 rows_own : (rows : List CashRow) → ((id : ℕ) → IsShort (filter (is_cash_row_of_trade id) rows)) → all_distinct (trade_ids_of_cash_rows rows) ≡ true
 rows_own [] h = refl
 rows_own (r ∷ rows) h = by_trade r.trade refl (rows_own rows (λ id. shorter (is_cash_row_of_trade id r) (filter (is_cash_row_of_trade id) rows) (h id)))

@@ -17,7 +17,7 @@ use Rattle.brk_desk_queries.specs.QueryResults.{AnswersQueryAsModel}
 shown_as_told : (e : Estimate) (m : model.Estimate) → e ≡ estimate_from_model m → estimate_fields (abstract_estimate e) ≡ estimate_record e
 shown_as_told e m is = rw is refl
 
--- an estimate that was told is the view of its order, and so is its refusal
+-- an estimate that was answered is the view of its order, and so is its refusal
 pub estimate_shown : (order : model.Order) (e : Estimate) (t : Tables) → IsEstimateOfModel order (Ok e) t → AnswersQueryAsModel (EstimateOf order) (Ok (views.Estimate e)) t
 estimate_shown order e t tells = (
   λ base books sound s.

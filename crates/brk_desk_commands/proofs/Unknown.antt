@@ -8,7 +8,7 @@ use Rattle.brk_money.specs.declared.refusal.Refusal.TheVariants.{BadText}
 use Rattle.brk_model.specs.Parse.{parse_by_first_field, order_feed_and_cancel_parsers, row_parsers, result_row_parsers, other_reference_row_parsers}
 use Rattle.brk_model.specs.Parse.{update_row_parsers, movement_and_one_day_settlement_row_parsers}
 
--- another text is told apart
+-- another text is not equal
 other : (known kind : Text) → kind ≢ known → bytes_eq known kind ≡ false
 other known kind h = false_from_ne_true (bytes_eq known kind) (λ e. h (sym ((bytes_eq-Decides known kind).0 e)))
 

@@ -22,7 +22,7 @@ use Rattle.brk_http_engine.proofs.Simulated as sim
 abbrev change_between : {B C : Type 0} → B → B → C → C → Option Text → Option Text → EnvironmentChange B C
 change_between base after clock later was now = record { base = base; after = after; clock = clock; later = later; old = was; new = now }
 
--- ---- over the bases that a desk stands for
+-- ---- over the bases that a desk represents
 
 module _ {D B C : Type 0} (forms : RequestParsers) (acts : CallRelation D) (does : CallRelation B) (meets_disk_assumption : D → Type 0) (represents : D → B → Type 0)
     (earlier : (old : D) (now : ℕ) (call : Call) (outcome : Outcome) (new : D) → acts old now call outcome new → meets_disk_assumption new → meets_disk_assumption old)

@@ -101,7 +101,7 @@ digits_value-magnitude n h =
     last : (n : ℕ) → 10 * (10 * (n / 100) + (48 + n % 100 / 10 - 48)) + (48 + n % 10 - 48) ≡ n
     last n = omega arith
 
--- the sign is told by the first byte
+-- the first byte decides the sign
 cents_value-text : (z : ℤ) → IsWithinAmountLimit z → cents_from_ascii_digits (cents_text z) ≡ z
 cents_value-text (pos n) h =
     let first = plain_first n h in

@@ -1,4 +1,4 @@
--- What an index has in memory is told as if it was read.
+-- What an index has in memory, as the result of a read.
 use Rattle.std.proofs.Common.{◌≡◌, Result, subst, sym}
 use Rattle.sqlite_trees.specs.declared.store.Store.{Ghosts}
 use Rattle.sqlite.specs.Held.{Held, state}

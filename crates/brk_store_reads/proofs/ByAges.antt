@@ -37,7 +37,7 @@ module _ {S : Type 0} (g : Ghosts S) where
   was_open_before old mid end v P before read clean =
       (before.unchanged_if_open (disk_was_clean_before_reads mid end (single_read_changes_nothing mid end (Ok v) P read) clean) (read.was_open clean)).was_open
 
-  -- a read after reads that told nothing
+  -- a read after reads without a result
   pub then_read : (old mid end : Held S) {V E : Type 0} (result : Result V E) (P : V → Tables → Type 0) → IsUnchangedByReads g old mid → ReadPost g mid end result P → ReadPost g old end result P
   then_read old mid end {V} {E} result P before read = record {
     answered = λ clean. tells result (read.answered clean);

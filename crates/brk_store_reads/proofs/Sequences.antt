@@ -31,7 +31,7 @@ module _ {S : Type 0} (g : Ghosts S) where
       → ((t : Tables) → P v t → R x t) → ReadSequencePost {E = E} g old end (Ok v) P → ReadSequencePost {E = H} g old end (Ok x) R
   reads_retold old end v x P R tell reads = record { answered = λ clean t holds. tell t (reads.answered clean t holds); unchanged = reads.unchanged }
 
-  -- reads that told nothing
+  -- reads that failed
   pub reads_failed : (old end : Held S) {X H : Type 0} (e : H) (R : X → Tables → Type 0) → IsUnchangedByReads g old end → ReadSequencePost {V = X} g old end (Err e) R
   reads_failed old end e R unchanged = record { answered = λ clean. tt; unchanged = unchanged }
 
@@ -46,7 +46,7 @@ module _ {S : Type 0} (g : Ghosts S) where
     survives = reads.unchanged.survives;
   }
 
-  -- a read that told nothing
+  -- a read that failed
   pub none_read : (old end : Held S) {X H : Type 0} (e : H) (R : X → Tables → Type 0) → IsUnchangedByReads g old end → ReadPost {V = X} g old end (Err e) R
   none_read old end e R unchanged = record {
     answered = λ clean. tt;
@@ -77,7 +77,7 @@ module _ {S : Type 0} (g : Ghosts S) where
         → ((t : Tables) → P v t → Q w t → R x t) → ReadPost {E = E} g old mid (Ok v) P → ReadPost {E = F} g mid end (Ok w) Q → ReadPost {E = H} g old end (Ok x) R
     read_with v w x P Q R tell first next = read_with_reads v w x P Q R tell first (one_read mid end (Ok w) Q next)
 
-    -- what comes after reads told nothing
+    -- what comes after the reads failed
     pub reads_then_failed : {V W X E F H : Type 0} (v : V) (result : Result W F) (e : H) (P : V → Tables → Type 0) (Q : W → Tables → Type 0) (R : X → Tables → Type 0)
         → ReadSequencePost {E = E} g old mid (Ok v) P → ReadSequencePost g mid end result Q → ReadSequencePost {E = H} g old end (Err e) R
     reads_then_failed v result e P Q R first next = reads_failed old end e R (joined_reads_change_nothing old mid end first.unchanged next.unchanged)

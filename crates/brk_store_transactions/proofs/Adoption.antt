@@ -158,7 +158,7 @@ audited_third db (Some condition.Form) defined there h = subst (λ s. IsDatabase
 audited_third db (Some c) defined there h = subst (λ s. IsDatabaseAuditResultBySchema (abstract_schema s) db (Some c)) (sym (one_desk Third h.0 h.1.0 db there h.1.1.0)) h.1
 
 module _ {S : Type 0} (g : Ghosts S) (old first : Held S) (settled : IsTrue (state g old).is_open → (state g old).now ≡ (state g old).committed) where
-  -- ---- rolled back, whatever was told: of a desk of the third schema it is an audit
+  -- ---- rolled back, whatever the result: of a desk of the third schema it is an audit
 
   module _ {V E : Type 0} (mid end : Held S) (out : Result V E) (Q : V → State → State → Type 0)
       (step : IsTransactionStep (state g (with_transaction_open old)) (state g mid) out Q) (late : Survives (state g mid) (state g end) (λ _. ⊥))

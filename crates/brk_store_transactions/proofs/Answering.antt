@@ -56,7 +56,7 @@ one_failing schema (c ∷ cs) t a b (inl h) (inr k) = absurd (k.0 h.0)
 one_failing schema (c ∷ cs) t a b (inr h) (inl k) = absurd (h.0 k.0)
 one_failing schema (c ∷ cs) t a b (inr h) (inr k) = h.1 ∙ sym k.1
 
--- ---- what is told of a database
+-- ---- the result of an audit of a database
 
 -- rows that have not their form fail it
 form_fails : (schema : Schema) (t : Tables) → satisfies_form_condition schema t && has_utf8_texts t ≡ false → IsTrue (has_utf8_texts t) → IsAuditResult schema t (Some condition.Form)

@@ -76,7 +76,7 @@ module _ {S : Type 0} (g : Ghosts S) (old conn first mid end : Held S) (conn_is 
       of_open (Ok answer) h = h.1.0
       of_open (Err fault) h = tt
 
--- ---- by what the rows told
+-- ---- by the result of the rows
 
 module _ {S : Type 0} (g : Ghosts S) (old conn first mid end : Held S) where
   -- they pass
@@ -94,7 +94,7 @@ module _ {S : Type 0} (g : Ghosts S) (old conn first mid end : Held S) where
   audit_fails answer failing conn_is first_is settled step is late back =
       audited g old conn first mid end conn_is first_is settled (Ok answer) step late back (Err (Damaged failing)) (λ P h. subst P is h)
 
-  -- nothing was told
+  -- the audit failed
   pub audit_gives_up : (fault : CallFault) → conn ≡ old → first ≡ with_transaction_open conn → (IsTrue (state g conn).is_open → (state g conn).now ≡ (state g conn).committed)
       → IsTransactionStep {V = Option Condition} {E = CallFault} (state g first) (state g mid) (Err fault) AuditsByThirdSchema
       → Survives (state g mid) (state g end) (λ _. ⊥) → (HasCleanDisk (state g end) → IsRolledBack (state g mid) (state g end)) → AuditPost g old end (Err (fault_of_call fault))

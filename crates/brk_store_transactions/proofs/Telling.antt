@@ -31,7 +31,7 @@ none_of db a b c First there = c there
 none_of db a b c Second there = b there
 none_of db a b c Third there = a there
 
--- what the conditions of the schema that is there tell is told of the database
+-- the condition that fails by the schema of the database is the one that fails of the database
 audited_of : (schema : known.Schema) (db : Database) (failing : Condition) → DatabaseHasSchema (abstract_schema schema) db
     → IsDatabaseAuditResultBySchema (abstract_schema schema) db (Some failing) → IsDatabaseAuditResult db (Some failing)
 audited_of schema db condition.NotEmpty there h = h
@@ -108,7 +108,7 @@ abbrev pub ReturnsTrueAuditResult : AuditResult → State → State → Type 0
 ReturnsTrueAuditResult told a b = IsTrue a.is_open × (b.now ≡ a.now) × (TablesWithDeskNamesAreDeskTables a.now → IsTrueAuditResult told a.now)
 
 module _ (a b c : State) (schema : known.Schema) (there : IsTransactionStep {V = Option known.Schema} {E = StoreFailed} a b (Ok (Some schema)) FindsSchemaOfDatabase) where
-  -- the desk that is there, and what its conditions told
+  -- the desk that is there, and the result of its conditions
   examined : (answer : Option Condition) (told : AuditResult)
       → ((db : Database) → DatabaseHasSchema (abstract_schema schema) db → IsDatabaseAuditResultBySchema (abstract_schema schema) db answer
       → IsTrueAuditResult told db)

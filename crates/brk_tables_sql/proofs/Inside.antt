@@ -81,7 +81,7 @@ step_then {U} {V} {E} {F} a b c u r P Q R joins first next = record {
     go (Ok v) p q = let k = q p.0 in (k.0, joins v p.1 k.1)
     go (Err e) p q = tt
 
--- the same step, of which less is told, or of whose answer something was made
+-- the same step with a weaker statement, or with a result made of its result
 pub step_weaker : {V E : Type 0} (a b : State) (r : Result V E) (P Q : V → State → State → Type 0) → ((v : V) → P v a b → Q v a b) → IsTransactionStep a b r P → IsTransactionStep a b r Q
 step_weaker {V} {E} a b r P Q less step = record { commits_nothing = step.commits_nothing; relates_states = λ clean on. go r (step.relates_states clean on); survives = step.survives }
   where

@@ -60,7 +60,7 @@ is_done Submitted = refl
 is_done Pending = refl
 is_done Canceled = refl
 
--- a flag is set where what it stands for is so
+-- a flag is set where its value is true
 is_set : (b : Bool) → (cond b 1 0 == 1) ≡ b
 is_set true = refl
 is_set false = refl

@@ -31,7 +31,7 @@ module _ {W T : Type 0} (desk : ProgramTables W T) (w : W) (text : List ℕ) (as
       begins_shown text params s s rows begins (still s unshut)
       (λ d db it from. subst (λ k. EndsIn k.command db (timed params k.formats it.now)) (same_value (sym sure.0 ∙ it.is)) tt)
 
-  -- what is told of each answer is told of one that begins so
+  -- what holds of each answer holds of one with these first rows
   pub tells_start : (P : T → List Row → Type 0) → ((all : List Row) → Shown text params s s all → TablesSatisfy desk (λ t. P t all) s.now)
       → TablesSatisfy desk (λ t. (tail : List Row) × P t (rows ++ tail)) s.now
   tells_start P tells t tree h =

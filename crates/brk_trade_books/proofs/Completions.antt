@@ -37,7 +37,7 @@ pub later_times : (base : Base) (now : ℕ) → stamp_of_next_command base now �
     → CompletionBooksInvariant (Some (stamp_of_next_command base now)) (completed_trades base)
 later_times base now h k = record { early = later base now k.early; moments = k.moments; clock = h }
 
--- ---- trades that came to another status, and were not completed before or after
+-- ---- trades that got another status, and were not completed before or after
 
 pub completed_unseen : (p : Trade → Bool) (f : Trade → Trade) (ts : List Trade) → ((t : Trade) → is_completed (f t) ≡ false)
     → AllByRecursion (λ t. p t ≡ true → is_completed t ≡ false) ts → filter is_completed (update_where p f ts) ≡ filter is_completed ts
@@ -53,7 +53,7 @@ completed_unseen p f (t ∷ ts) g h = by_test (p t) refl ∙ ap (λ us. cond (is
 
 -- ---- a trade at the market was never completed
 
--- one that comes to another status than the market's is not there
+-- one that gets another status than the market's is not there
 pub moved_elsewhere : (stamp : ℕ) (status : Status) (t : Trade) → is_same_trade_status status Submitted ≡ false → HasNoCompletionIfSubmitted (trade_with_status_change stamp status t)
 moved_elsewhere stamp status t s p = let k : has_last_status Submitted (trade_with_status_change stamp status t) ≡ false = status_of_marked stamp status Submitted t ∙ s in absurd (cc)
 

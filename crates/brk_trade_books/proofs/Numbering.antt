@@ -41,7 +41,7 @@ waits_not_done (Some m) h = by_status m.status h
 pub pending_not_completed : (t : Trade) → has_last_status Pending t ≡ true → is_completed t ≡ false
 pending_not_completed t h = waits_not_done (last_status_change t) h
 
--- a trade that came to another status does not wait
+-- a trade that got another status does not wait
 pub moved_way : (stamp : ℕ) (status : Status) (t : Trade) → is_same_trade_status status Pending ≡ false → HasOneStatusChangeIfPending (trade_with_status_change stamp status t)
 moved_way stamp status t s p = let k : has_last_status Pending (trade_with_status_change stamp status t) ≡ false = status_of_marked stamp status Pending t ∙ s in absurd (cc)
 

@@ -141,7 +141,7 @@ rate_read base order found books k f s p =
 
 -- ---- the refusal
 
--- tests that come to the same refusal
+-- tests with the same refusal
 pub record Alike (xs ys : List RefusalCheck) : Type 0 where
   pub first : first_refusal xs ≡ first_refusal ys
 

@@ -47,7 +47,7 @@ filter-passes {X = X} p (x ∷ xs) = by_test (p x) refl (filter-passes p xs)
     by_test true e h = (e, h)
     by_test false e h = h
 
--- ---- what one quote and a tick of its symbol come to
+-- ---- the outcome of one quote and a tick of its symbol
 
 submitted_changes : (stamp : ℕ) (ids : List ℕ) (t : Tables) → tables_after_changes (row_changes_of_submissions stamp ids) t ≡ tables_with_trades_submitted stamp ids t
 submitted_changes stamp [] t = refl

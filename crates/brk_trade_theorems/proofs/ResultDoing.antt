@@ -146,7 +146,7 @@ record Planned (base : Base) (price : ℕ) (last : Option ℕ) (now : ℕ) (t : 
 abbrev outcome_planned : ResultPlanFacts → ℕ → ClosedLots → ℕ → ResultFigures
 outcome_planned found price closed stamp = figures_of_result found price closed.values stamp
 
--- what it comes to is what the definitions say
+-- its outcome is what the definitions say
 record Agrees (base : Base) (price : ℕ) (t : Trade) (found : ResultPlanFacts) (closed : ClosedLots) (stamp : ℕ) : Type 0 where
   pub commission : (outcome_planned found price closed stamp).completed.commission ≡ (trade_after_completion base stamp price t).commission
   pub tax : (outcome_planned found price closed stamp).completed.tax ≡ (trade_after_completion base stamp price t).tax

@@ -48,7 +48,7 @@ not_true : (b : Bool) → not b ≡ true → b ≡ false
 not_true true e = cc
 not_true false e = refl
 
--- ---- a name that is told once more, and one that is new
+-- ---- a name that occurs once more, and one that is new
 
 -- True if `name` is not one of `names`.
 abbrev is_new : List Text → Text → Bool

@@ -20,12 +20,12 @@ texts_before (x ∷ s) (y ∷ t) = elim (cases_Bool (nat_lt x y)) [
   ]
 ]
 
--- what is told of two names that compare so
+-- the order of two rows whose names compare so
 pub names_compared : (s t : List ℕ) (o : Ordering) (later : Bool) → slice_cmp nat_cmp s t ≡ o
     → is_text_less s t || (bytes_eq s t && later) ≡ is_lt o || (is_eq o && later)
 names_compared s t o later e =
     (λ i. texts_before s t i || (sym (is_eq-slice_cmp s t) i && later)) ∙ (λ i. is_lt (e i) || (is_eq (e i) && later))
 
--- a volume before another, as it is told of numbers that are not below 0
+-- a volume before another, of numbers that are not below 0
 pub volumes_before : (m n : ℕ) (named : Bool) → nat_lt n m || ((n == m) && named) ≡ int_lt (pos n) (pos m) || (not (int_lt (pos m) (pos n)) && named)
 volumes_before m n named = grind (arith, nat_tests)

@@ -156,7 +156,7 @@ some_of_all {X = X} f p (x ∷ xs) h = by_test (p x) refl (some_of_all f p xs h.
     by_test true e ih = ap (λ z. f x +ℤ z) ih
     by_test false e ih = ih ∙ sym (ap (λ z. z +ℤ total_by f xs) (h.0 e) ∙ no_more (total_by f xs))
 
--- a sum over the lots that are told, by the trades of the position
+-- a sum over the lots of a view, by the trades of the position
 told_sum : (base : Base) (account : ℕ) (symbol : Text) (f : LotDetails → ℤ) → BooksInvariant base
     → AllByRecursion (λ v. is_some (opened_lot_row (sheets base) v.id) ≡ false → f (lot_with_changes_by_others (sheets base) (trade_row v)) ≡ pos 0) (trades_held base account symbol)
     → total_by f (lots_opened_in_symbol (sheets base) account symbol) ≡ total_by (λ v. f (lot_with_changes_by_others (sheets base) (trade_row v))) (trades_held base account symbol)

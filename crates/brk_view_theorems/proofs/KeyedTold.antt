@@ -44,7 +44,7 @@ done_steps base now command key reply after e = by_kept (stored_row_with_optiona
     by_kept (Some k) e = absurd (is_again (bytes_eq k.row_text (row_text command)) k.line base after reply e)
     by_kept None e = by_result base now command key reply after (step base now command) refl e
 
--- what is kept under a key changes no row that is told
+-- what is kept under a key changes no row of a view
 kept_tells : (base : Base) (key : Option Key) (command : Command) (reply : Reply) (u : Trade) (c : Completion) → PrintsReplyFigures base u c
     → PrintsReplyFigures (base_with_stored_reply key command reply base) u c
 unfolding tables_of_base_in_schema tables_sorted_by_key

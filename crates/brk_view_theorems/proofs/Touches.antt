@@ -77,7 +77,7 @@ other_moment moment id ts h e =
 turned : (m n : ℕ) → (n == m) ≡ false → (m == n) ≡ false
 turned m n h = grind (arith, nat_tests)
 
--- two of them came to their last status at two moments
+-- two of them got their last status at two moments
 moments_differ : (ts : List Trade) (m n : ℕ) → HasDistinctLastStatusStamps ts → IsAmong ts m → IsAmong ts n → (m == n) ≡ false → (moment_in ts m == moment_in ts n) ≡ false
 moments_differ [] m n d e f h = absurd (cc)
 moments_differ (t ∷ ts) m n d e f h = by_tests (moments_differ ts m n d.1) (t.id == m) (t.id == n) refl refl e f

@@ -184,7 +184,7 @@ same_filtered name (n ∷ names) = by_test (same_filtered name names) (bytes_eq 
     by_test ih true e = ih
     by_test ih false e = (e, ih)
 
--- of names of which each stands once the first is none of the others, and so it is with these
+-- of names of which each occurs once the first is none of the others, and the others occur once
 tail_is : (name : Text) (names : List Text) → distinct_texts (name ∷ names) ≡ name ∷ names → filter (λ u. not (bytes_eq u name)) (distinct_texts names) ≡ names
 tail_is name names e = tails name (filter (λ u. not (bytes_eq u name)) (distinct_texts names)) names e
   where
@@ -202,7 +202,7 @@ no_name name (n ∷ names) b h e = ap (λ c. c || list_any (λ other. has_name o
     other false f = f
     other true f = absurd (let k : false ≡ true = sym h.0 ∙ ap (λ s. bytes_eq s name) (sym (same_text b.name n f)) ∙ e in cc)
 
--- ---- names of which each stands once
+-- ---- names of which each occurs once
 
 few_left : {X : Type 0} (p : X → Bool) (xs : List X) → length (filter p xs) ≤ length xs
 few_left p [] = omega arith

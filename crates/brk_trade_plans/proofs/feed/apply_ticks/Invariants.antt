@@ -3,7 +3,7 @@ use Rattle.std.specs.List.{list_any}
 use Rattle.brk_trade_plans.specs.Feed.{states_of_quotes, states_after_ticks, row_changes_of_ticks, trades_triggered_by_ticks, has_volume_above_limit}
 use Rattle.brk_trade_plans.proofs.feed.apply_ticks.Given as goal
 
--- what the ticks that are left come to, after what came of those before
+-- the outcome of the ticks that are left, after that of those before
 abbrev pub invariant-loop-tick : goal.invariant-loop-tick
 invariant-loop-tick l =
     let rest = drop l.tick-index l.ticks in
