@@ -49,24 +49,26 @@ pub const SUBMITTED_CASH_PURCHASE: Case = Case {
 /// charge of 5.00, a commission of 10.00, a tax of 0 and no price, which closes the oldest lots
 /// first. Fails if the quantity is not within its limits, and if memory runs out.
 pub fn trade_row_of_case(alloc: Global, case: &Case) -> Result<TradeRow, Fail> {
+    let (id, account) = (Id::new(1).unwrap(), Id::new(100).unwrap());
+    let bid = Price::new(1_000).unwrap();
+    let charge = ChargeAmount::new(500).unwrap();
+    let (commission, tax) = (Amount::new(1_000).unwrap(), Amount::new(0).unwrap());
     let qty = expect_some(Qty::new(case.qty), "quantity")?;
-    let symbol = parse_text(alloc, "ABC")?;
-    let executor = String::from_str(alloc, "Ann Lee")?;
     Ok(TradeRow {
-        id: Id::new(1).unwrap(),
+        id,
         stamp: Stamp::nearest(1_709_251_200_016),
         status: case.status,
         kind: case.kind,
         is_cash: case.is_cash,
-        symbol,
+        symbol: parse_text(alloc, "ABC")?,
         qty,
-        bid: Price::new(1_000).unwrap(),
-        account: Id::new(100).unwrap(),
-        executor,
+        bid,
+        account,
+        executor: String::from_str(alloc, "Ann Lee")?,
         price: None,
-        charge: ChargeAmount::new(500).unwrap(),
-        commission: Amount::new(1_000).unwrap(),
-        tax: Amount::new(0).unwrap(),
+        charge,
+        commission,
+        tax,
         is_lifo: false,
     })
 }
