@@ -3,7 +3,8 @@
 A function is proved by its own body and the contracts of what it calls, so an edit of another function changes nothing in its proof. So a
 check reads the crate with up to MOST edits, and proves the functions that they change and those that these call (`rattle check --only`). A
 mutant is rejected if the prover reports an error in its function or in the answers of that function. A mutant for which it reports none, or
-only that a name is missing, which says nothing of a contract, is tried alone, by the kit's `must_fail`, which proves the whole crate.
+only that a name is missing, which says nothing of a contract, is tried alone, by the kit's `must_fail`, which proves the whole crate. So is
+one that changes anything else, such as a constant, on which other functions may rest.
 
 It calls functions of the kit's rt (tried on kits 13b and 13f) over the libraries in the folders out/ of the tree, which `rt ci`, `./brk` or
 `rt check` built."""
@@ -67,6 +68,11 @@ def function_at(file, text, place):
     return ''
 
 
+def place_of_answers(file):
+    """The name of the function whose answers are in a file of proofs/: they are in a folder with its name."""
+    return '::'.join(file.split('/')[1:-1])
+
+
 class Edit:
     """An edit of a crate, with the functions and the other files that it changes."""
 
@@ -90,9 +96,17 @@ class Edit:
             texts[file] = text.replace(old, new)
         return texts
 
+    def changes(self, place):
+        """Whether it changes the function with this name. The answers of a method are in a folder below that of its module."""
+        return any(place == it or it[:1].isupper() and place.endswith(f'::{it}') for it in self.functions)
+
+    def is_of_functions(self):
+        """Whether it changes functions and, beside them, their answers alone."""
+        return '' not in self.functions and all(map(self.changes, map(place_of_answers, self.others)))
+
     def error_in(self, errors):
         """The first error in a function of this edit that says more than that a name is missing, or else the first."""
-        own = [error for place, error in errors if any(place == it or it[:1].isupper() and place.endswith(f'::{it}') for it in self.functions)]
+        own = [error for place, error in errors if self.changes(place)]
         return next((it for it in own if not NAME.search(it)), own[0] if own else None)
 
 
@@ -111,8 +125,7 @@ def errors_of(said, texts, folder):
                     at += 1
                 function = function_at(it[2], text, len('\n'.join(own[:at])))
             else:
-                # the answers of a function are in a folder with its name
-                function = '::'.join(it[2].split('/')[1:-1])
+                function = place_of_answers(it[2])
             # the prover breaks a long line before "has no field"
             found.append((function, f'{line} {after.strip()}' if after.startswith('  has no ') else line))
     return found
@@ -184,7 +197,8 @@ def error_of_edit(rt, mutant, errors, texts):
 def errors_of_edits(rt, crate, mutants):
     """Yields each mutant with the error for which the prover rejects its function, or with nothing. The prover may report no error in a function that calls
     one with an edit: such mutants are tried once more apart from each other, and at last each by itself."""
-    waiting = list(mutants)
+    waiting = [it for it in mutants if it.is_of_functions()]
+    yield from ((it, None) for it in mutants if not it.is_of_functions())
     with tempfile.TemporaryDirectory(prefix='together-') as kept:
         for may_join in (are_different, are_apart(called_in(crate.folder)), lambda edit, other: False):
             again = []
@@ -253,7 +267,7 @@ def add_edits(rt):
     """What the function of that name of a kit that keeps what passed does for its `rt ci`: one task tries the mutants of a crate, once it is proved. Those that
     an earlier run tried, together or alone, are not tried again."""
 
-    def added(tasks, crate, paths, first, waits, is_well, kept, start=None, in_ci=True):
+    def added(tasks, crate, paths, first, waits, is_well, kept):
         found, known = {}, {}
 
         def work(given, jobs):
