@@ -203,6 +203,9 @@ fn expect_answer<S: Alter>(
     expect_answer_line(alloc, &answer, wanted)
 }
 
+// The row of a broker that no desk of these tests has before.
+const NEW_BROKER: &str = "broker,2,Cy";
+
 // A command is accepted under its key, repeated under it, and refused without it, because its
 // broker exists.
 fn expect_answers<S: Alter>(
@@ -216,10 +219,18 @@ fn expect_answers<S: Alter>(
     expect_answer(alloc, desk, command, None, "no,15\n")
 }
 
+fn expect_answers_under_key<S: Alter>(
+    alloc: Global,
+    desk: &mut Desk<S>,
+    key: &Key,
+) -> Result<(), Fail> {
+    let command = command_of_row(alloc, NEW_BROKER)?;
+    expect_answers(alloc, desk, &command, key)
+}
+
 fn expect_answers_to_new_broker<S: Alter>(alloc: Global, desk: &mut Desk<S>) -> Result<(), Fail> {
     let key = key_of_row(alloc, 1)?;
-    let command = command_of_row(alloc, "broker,2,Cy")?;
-    expect_answers(alloc, desk, &command, &key)
+    expect_answers_under_key(alloc, desk, &key)
 }
 
 // The record of the account of customer 10.
@@ -246,10 +257,14 @@ fn expect_head<S: Alter>(alloc: Global, desk: &mut Desk<S>) -> Result<(), Fail> 
     )
 }
 
+fn expect_row_text(alloc: Global, command: &Command, wanted: &str) -> Result<(), Fail> {
+    let row: String = row_text(alloc, command)?;
+    expect_text(row.as_str(), wanted)
+}
+
 fn expect_text_of_row(alloc: Global) -> Result<(), Fail> {
-    let command = command_of_row(alloc, "broker,2,Cy")?;
-    let row: String = row_text(alloc, &command)?;
-    expect_text(row.as_str(), "broker\x1f2\x1fCy")
+    let command = command_of_row(alloc, NEW_BROKER)?;
+    expect_row_text(alloc, &command, "broker\x1f2\x1fCy")
 }
 
 // Checks calls of a desk over the store in the database of a connection, after two purchases and a
