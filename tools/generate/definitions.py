@@ -24,7 +24,6 @@ CODE = [
     'brk_tables_views',
     'brk_tables',
     'brk_tables_scan',
-    'brk_tables_definitions',
     'brk_store_transactions',
     'brk_store_reads',
     'brk_store',

@@ -1,6 +1,6 @@
 #!/usr/bin/env python3
 """Writes the files that follow from the list of tables and statements below: the shapes and cells of the tables (brk_tables_schema), which text makes
-which table (brk_tables), the rows of a desk's tables in code (brk_trade_rows), the definitions of the tables in code (brk_tables_definitions), the names
+which table (brk_tables), the rows of a desk's tables in code (brk_trade_rows), the definitions of the tables in code (brk_tables), the names
 of all columns, the reads of whole tables and their decoding (brk_tables_scan), that a database has the rows of one set of tables (brk_tables), the
 tables that a transcript shows (brk_tests_replay), and what each SQL text means over any schema (in the crate of the statement). Run it at the top of the
 repository after a change of the list; `.ci/run` does so first. It lays out what it wrote by `rt fmt`, so where nothing changed it leaves the tree as
@@ -812,7 +812,7 @@ pub(crate) const COLUMNS_OF_ALL_TABLES: [(&str, &[&str]); {len(DATA)}] = [
     save('crates/brk_tables_scan/src/column_names.rt', out)
 
 def definitions():
-    """The definitions of all tables as the code of brk_tables_definitions states them, and how tables are told apart"""
+    """The definitions of all tables as the code of brk_tables states them, and how tables are told apart"""
     def table(d):
         t, sql, w, row, key, rows, rowkey, cols = d
         spot = lambda i: 0 if rowkey and i == 0 else i + 1
@@ -831,14 +831,14 @@ def definitions():
 """
     out = f"""//! Written by tools/generate/tables.py: the definitions of a desk's tables.
 
-use crate::definition::Definition;
+use crate::definitions::definition::Definition;
 use sqlite_schema::schema::Kind;
 
 /// The definitions of all tables of a desk.
 pub(crate) static DEFINITIONS: [Definition; {len(DATA)}] = [
 {''.join(table(d) for d in DATA)}];
 """
-    save('crates/brk_tables_definitions/src/desk_tables.rt', out)
+    save('crates/brk_tables/src/definitions/desk_tables.rt', out)
     every = ', '.join(d[2] for d in DATA)
     out = f"""-- Written by tools/generate/tables.py: a desk's tables are known by their names, and their foreign keys write no rows.
 use Rattle.std.proofs.Common.{{◌≡◌, ℕ, List, Option, Some, true, map, refl, sym, ap, ◌∙◌, slice_get}}
@@ -862,7 +862,7 @@ pub same_by_definition : (v w : DeskTable) (tree : ℕ) → table_definition_at_
 same_by_definition v w tree same =
     let e : Some v ≡ Some w = sym (known_by_name v tree) ∙ ap (λ t. table_of_name t.name) same ∙ known_by_name w tree in cc
 """
-    save('crates/brk_tables_definitions/proofs/Written.antt', out)
+    save('crates/brk_tables/proofs/Written.antt', out)
 
 def listed():
     out = f"""-- Written by tools/generate/tables.py: the names of a table and of its columns do not depend on its tree.
@@ -1634,7 +1634,7 @@ pub const TABLES: [(&str, &str); {len(DATA)}] = [
 
 def lay_out():
     """Lays out the crates that were written to, and gives each file that came out as it was its time again"""
-    for crate in sorted({'brk_trade_rows', 'brk_tests_replay', 'brk_tables_definitions', *(folder.split('/')[0] for folder in STATEMENTS)}):
+    for crate in sorted({'brk_trade_rows', 'brk_tests_replay', 'brk_tables', *(folder.split('/')[0] for folder in STATEMENTS)}):
         done = subprocess.run(['rt', 'fmt'], cwd=f'crates/{crate}', stdout=subprocess.PIPE, stderr=subprocess.STDOUT, text=True)
         if done.returncode != 0:
             sys.exit(f'tools/generate/tables.py: rt fmt in crates/{crate}:\n{done.stdout}')

@@ -2,7 +2,7 @@
 use Rattle.std.proofs.Common.{IsTrue}
 use Rattle.sqlite_trees.specs.declared.store.Store.{Ghosts}
 use Rattle.sqlite.specs.Held.{Held, state}
-use Rattle.brk_tables_definitions.specs.Definitions.{TablesWithDeskNamesAreDefined}
+use Rattle.brk_tables.specs.Definitions.{TablesWithDeskNamesAreDefined}
 use Rattle.brk_tables_scan.specs.Schemas.{TablesWithDeskNamesAreDeskTables}
 use Rattle.brk_store_transactions.specs.Audited.{ConnectionTablesWithDeskNamesAreDeskTables}
 use Rattle.brk_store.specs.Adopted.{ConnectionPassesDefinitionTest, ConnectionTablesWithDeskNamesAreDefined}

@@ -4,7 +4,7 @@ use Rattle.std.specs.Prelude.{IsTrue}
 use Rattle.sqlite_trees.specs.declared.store.Store.{Ghosts}
 use Rattle.sqlite.specs.Held.{Held, state}
 use Rattle.sqlite.specs.State.{HasCleanDisk}
-use Rattle.brk_tables_definitions.specs.Definitions.{PassesDefinitionTest, TablesWithDeskNamesAreDefined}
+use Rattle.brk_tables.specs.Definitions.{PassesDefinitionTest, TablesWithDeskNamesAreDefined}
 
 -- Each table of the current database of the connection `held` with the name of a desk's table is
 -- defined as a desk defines it (`PassesDefinitionTest`). `Store::adopt` tests this.

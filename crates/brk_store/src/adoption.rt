@@ -10,7 +10,7 @@ use crate::Store;
 use crate::index::index_of_adopted;
 use brk_money::Fault;
 use brk_store_transactions::{audit_and_upgrade_database, audit_database};
-use brk_tables_definitions::test_definitions;
+use brk_tables::test_definitions;
 use sqlite::{Alter, Connection};
 use std::alloc::Global;
 

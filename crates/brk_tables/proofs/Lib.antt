@@ -7,3 +7,7 @@ pub mod Values
 pub mod SameTables
 pub mod OneTables
 pub mod LaterTables
+pub mod Written
+pub mod Shapes
+pub mod Laid
+pub mod Desks

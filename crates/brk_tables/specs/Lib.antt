@@ -1,1 +1,3 @@
 pub mod Made
+pub mod Definitions
+pub mod Written

@@ -1,5 +1,6 @@
 //! The SQL statements on the tables of a brokerage, one function for each; the creation of the
-//! tables, their upgrade from an older schema, and theorems on the tables that rows encode.
+//! tables, their upgrade from an older schema, the test of their definitions, and theorems on the
+//! tables that rows encode.
 //!
 //! Each function that takes a transaction is called while the transaction is open, and commits
 //! nothing. An error of the `sqlite` crate, also if this crate runs out of memory, and a malformed
@@ -13,6 +14,7 @@
 //! walk.
 #![tactic(auto)]
 
+pub mod definitions;
 pub mod exact;
 pub mod making;
 pub mod upgrade;
@@ -45,5 +47,6 @@ pub use brk_tables_views::{
     lot_changes_by_trade, lot_changes_of_lot, twenty_trades_of_account, twenty_trades_of_symbol,
     walk_account_cash_rows, walk_completed_trades, walk_lots, walk_query_rows,
 };
+pub use definitions::test_definitions;
 pub use making::{create_desk_tables, create_later_tables};
 pub use upgrade::upgrade_tables;

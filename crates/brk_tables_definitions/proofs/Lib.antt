@@ -1,4 +1,0 @@
-pub mod Written
-pub mod Shapes
-pub mod Laid
-pub mod Desks
