@@ -1,4 +1,4 @@
-"""What scripts of this folder share: cases of a built `brk`, each compared with what is wanted, and a script of this folder as a module."""
+"""What the trials share: cases of a built `brk`, each compared with what is wanted, and a trial as a module."""
 
 import importlib.machinery
 import importlib.util
@@ -21,8 +21,9 @@ SCHEMA = (1, "brk: damaged: schema\n")
 
 
 def script(name):
-    """The module of a script of this folder."""
-    loader = importlib.machinery.SourceFileLoader(name, str(TOP / "tools/trials" / name))
+    """The module of a trial, of this folder or of examples/trials."""
+    folders = (TOP / "tools/trials", TOP / "examples/trials")
+    loader = importlib.machinery.SourceFileLoader(name, str(next(it / name for it in folders if (it / name).exists())))
     module = importlib.util.module_from_spec(importlib.util.spec_from_loader(name, loader))
     sys.modules[name] = module
     loader.exec_module(module)

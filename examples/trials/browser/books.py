@@ -1,4 +1,4 @@
-"""The desk of tools/trials/try_browser, and what the program and the tables say of it."""
+"""The desk of examples/trials/try_browser, and what the program and the tables say of it."""
 
 import csv
 

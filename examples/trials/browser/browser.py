@@ -1,4 +1,4 @@
-"""Drives headless Chromium by its DevTools protocol, with the standard library only. For tools/trials/try_browser.
+"""Drives headless Chromium by its DevTools protocol, with the standard library only. For examples/trials/try_browser.
 
     browser = Browser(program, folder)
     tab = browser.open("http://127.0.0.1:8124/")

@@ -1,4 +1,4 @@
-"""The desk, the programs and the cases of tools/trials/try_browser."""
+"""The desk, the programs and the cases of examples/trials/try_browser."""
 
 import contextlib
 import csv
