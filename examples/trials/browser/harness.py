@@ -8,23 +8,16 @@ import json
 import pathlib
 import re
 import shutil
-import socket
 import subprocess
 import sys
 import tempfile
 import time
 
 import desk_books
+from cases import Cases, TOP, free_port
 
-TOP = pathlib.Path(__file__).resolve().parents[3]
 PAGE = TOP / "examples" / "page" / "desk_page.py"
 SECONDS = 30
-
-
-def free_port():
-    with socket.socket() as free:
-        free.bind(("127.0.0.1", 0))
-        return free.getsockname()[1]
 
 
 def listening(port):
@@ -144,28 +137,13 @@ class Served:
         self.process.wait()
 
 
-class Trial:
+class Trial(Cases):
     """The cases so far, with the desk, the program of the page and a tab of the browser."""
 
     def __init__(self, desk, program, browser, pictures):
+        super().__init__()
         self.desk, self.program, self.browser, self.pictures = desk, program, browser, pictures
-        self.failed = self.count = 0
         self.tab = None
-
-    def tell(self, name, told, wanted=True):
-        self.count += 1
-        if told == wanted:
-            print(f"ok    {name}", flush=True)
-            return
-        self.failed += 1
-        print(f"WRONG {name}", flush=True)
-        if isinstance(told, list) and isinstance(wanted, list):
-            for at in range(max(len(told), len(wanted))):
-                one, other = (rows[at] if at < len(rows) else None for rows in (told, wanted))
-                if one != other:
-                    print(f"          row {at + 1}: {one!r}\n          wanted: {other!r}", flush=True)
-                    return
-        print(f"          {told!r}\n          wanted: {wanted!r}", flush=True)
 
     def show(self, hash_):
         """Shows a page of the address and waits until it is read."""

@@ -1,6 +1,5 @@
 """What the parts of try_reports share: desks that were booked, and what the program and the reports print of them."""
 
-import collections
 import csv
 import datetime
 import hashlib
@@ -10,7 +9,7 @@ import shutil
 import subprocess
 import sys
 
-from cases import script, TOP
+from cases import Cases, TOP, script
 
 REPORTS = TOP / "examples" / "reports"
 OFFSETS = (0, 1, 2, 3, 30, 31, 305, 306)
@@ -50,16 +49,6 @@ def content_of(path):
     return hashlib.sha256(path.read_bytes()).hexdigest()
 
 
-def differing(told, wanted):
-    """What two lists or two tables have that the other has not; other values as they are."""
-    if isinstance(told, dict) and isinstance(wanted, dict):
-        keys = [key for key in {**told, **wanted} if told.get(key) != wanted.get(key)]
-        return {key: told.get(key) for key in keys}, {key: wanted.get(key) for key in keys}
-    if isinstance(told, list) and isinstance(wanted, list) and len(told) + len(wanted) > 20:
-        return [one for one in told if one not in wanted], [one for one in wanted if one not in told]
-    return told, wanted
-
-
 def facts_of(lines):
     """The labels of an explanation, each with the first word after it."""
     facts = {}
@@ -94,19 +83,8 @@ class Market(PEERS.Market):
         return rows
 
 
-class Trial:
-    """The cases so far."""
-
-    def __init__(self, brk, folder):
-        self.brk, self.folder = brk, folder
-        self.cases = self.failed = 0
-
-    def tell(self, name, told, wanted):
-        self.cases += 1
-        if told != wanted:
-            self.failed += 1
-            here, there = differing(told, wanted)
-            print(f"WRONG {name}: {here!r:.1000}, and not {there!r:.1000}", flush=True)
+class Trial(Cases):
+    """The cases so far, of which those that are right are only counted."""
 
     def program(self, *words):
         """What a command of the program prints."""
