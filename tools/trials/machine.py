@@ -184,9 +184,9 @@ def releases(program, machine):
     packages = []
     for revision in (1, 2):
         made = machine.root / f"root/made-{revision}"
-        done = subprocess.run([TOP / "tools/build/release", made, "--program", program, "--revision", str(revision)], capture_output=True, text=True)
+        done = subprocess.run([TOP / "tools/build/pack", made, "--program", program, "--revision", str(revision)], capture_output=True, text=True)
         if done.returncode:
-            fail(f"tools/build/release: {done.stderr}")
+            fail(f"tools/build/pack: {done.stderr}")
         packages.append(next(made.glob("*.deb")))
         for path in made.iterdir():
             if revision == 1 or path.suffix == ".deb":
