@@ -8,7 +8,7 @@ import time
 
 import desk_client
 from books import LAST_TRADE
-from derived import EXPLAINED, expected_texts, shown_derivation, wanted_derivation
+from derived import shown_derivation, wanted_derivation
 from forms import fill_order
 from harness import plain, Program, Served
 
@@ -85,10 +85,7 @@ def other_desk(trial, views, page_port):
     trial.load("taxid/T10")
     trial.tell("with --port: a customer", len(tab.table("#accounts")), 2)
     trial.show("trade/3/100")
-    texts = expected_texts(EXPLAINED)
-    text = [
-        line for line in views["explained", 3] or texts["3"] if not re.match(r"(Rate  |Tax now|Commission now)", line)
-    ]
+    text = [line for line in views["explained", 3] if not re.match(r"(Rate  |Tax now|Commission now)", line)]
     wanted = wanted_derivation(text, HIDDEN)
     told = shown_derivation(tab)
     skip = ("Account ", "Customer ", "Cash row", "Cash before", "Balance before", "Balance after")

@@ -1,14 +1,10 @@
 """The page's derivations of trades, compared with `brk explain` and the tables."""
 
-import pathlib
 import re
-import sqlite3
-import tempfile
 
 from books import CUT
-from harness import Desk, plain, Program
+from harness import plain
 
-EXPLAINED = pathlib.Path(__file__).resolve().parent / "explained.txt"
 OWN_LINES = ("Rates that fit", "Band rates that fit")
 
 
@@ -47,21 +43,8 @@ def wanted_derivation(text, hides=()):
     return lines
 
 
-def expected_texts(path):
-    """The texts of a file of cases, by trade."""
-    texts, trade = {}, None
-    for line in path.read_text(encoding="utf-8").split("\n"):
-        if line.startswith("explain trade "):
-            trade = line.split()[-1]
-            texts[trade] = []
-        elif trade and line.startswith("> "):
-            texts[trade].append(line[2:])
-    return texts
-
-
 def derivations(trial, views):
-    """Each trade's derivation, by `brk explain` or the text of it, and by the tables."""
-    texts = expected_texts(EXPLAINED)
+    """Each trade's derivation, by `brk explain` and by the tables."""
     for trade, account in views["owners",]:
         trial.show(f"trade/{trade}/{account}")
         if trade in CUT:
@@ -69,14 +52,7 @@ def derivations(trial, views):
             trial.tell(f"trade {trade}: says that a lookup was cut off", says)
             continue
         lines = shown_derivation(trial.tab)
-        explained = views["explained", trade] or texts.get(str(trade))
-        if explained:
-            # the texts were written before the settlement day was set, which is all that it changes
-            wanted = [
-                re.sub("^One day from none$", f"One day from {views['rule']}", line)
-                for line in wanted_derivation(explained)
-            ]
-            trial.tell(f"trade {trade}: the derivation as brk explain", lines, wanted)
+        trial.tell(f"trade {trade}: the derivation as brk explain", lines, wanted_derivation(views["explained", trade]))
         if trade in views["effects",]:
             by_tables(trial, trade, lines, views["effects",][trade])
     trial.show("trade/3/100")
@@ -101,66 +77,3 @@ def by_tables(trial, trade, lines, wanted):
     trial.tell(f"trade {trade}: BUY to Balance after as the tables", told, wanted)
     checks = " ".join(trial.tab.texts("[id^=part-] td, [id^=part-] .note"))
     trial.tell(f"trade {trade}: all its checks hold", ("\u2715" in checks, "\u2713" in checks), (False, True))
-
-
-INPUTS, OUTPUTS = ("batch", "sql"), ("explain",)
-
-
-def read_cases(path):
-    """Yields each desk of a file of cases: its steps in order, each a batch with its clock reading, statements of SQL,
-    or a trade with its text."""
-    steps, step = [], None
-    for line in path.read_text(encoding="utf-8").split("\n"):
-        kind, _, words = line.partition(" ")
-        if kind == "desk" and steps:
-            yield steps
-            steps = []
-        elif kind == "|" and step and step[0] in INPUTS or kind == ">" and step and step[0] in OUTPUTS:
-            step[2].append(line[2:])
-        elif kind in INPUTS or line.startswith("explain trade "):
-            step = (kind, words.split()[-1] if words else "", [])
-            steps.append(step)
-        elif kind not in ("|", ">", ""):
-            step = None
-    yield steps
-
-
-def explained_cases(trial, paths, page_port):
-    """The page's derivations of further cases of `brk explain`."""
-    for path in paths:
-        for number, steps in enumerate(read_cases(path), 1):
-            with tempfile.TemporaryDirectory(prefix="brk-page-") as folder:
-                desk = Desk(trial.desk.brk, pathlib.Path(folder) / "case.db")
-                explained_desk(trial, desk, f"{path.name}, desk {number}", steps, page_port)
-
-
-def change(desk, kind, word, lines):
-    """Books a batch, or changes the tables as another program would."""
-    if kind == "batch":
-        desk.run("batch", "--at", word, rows=("\n".join(lines) + "\n").encode())
-        return
-    conn = sqlite3.connect(desk.path)
-    conn.executescript(";".join(lines))
-    conn.close()
-
-
-def explained_desk(trial, desk, name, steps, page_port):
-    program, wrong, count = None, [], 0
-    for kind, word, lines in steps:
-        if kind in INPUTS:
-            if program:
-                program.stop()
-            program = None
-            change(desk, kind, word, lines)
-        elif len(lines) > 1:
-            if program is None:
-                program = Program("--db", desk.path, "--page", str(page_port), "--brk", desk.brk).start()
-            trial.program = program
-            trial.load(f"trade/{word}")
-            count += 1
-            told, wanted = shown_derivation(trial.tab), wanted_derivation(lines)
-            if told != wanted:
-                wrong.append((word, [pair for pair in zip(told, wanted) if pair[0] != pair[1]][:2]))
-    if program:
-        program.stop()
-    trial.tell(f"{name}: {count} derivations as brk explain", wrong, [])

@@ -78,9 +78,8 @@ class Desk:
                 return conn.execute(query, given).fetchall()
 
     def explained(self, trade):
-        """The text of `brk explain`, or None if the program has no such command."""
-        status, lines, _ = self.run("explain", "trade", str(trade))
-        return lines.split("\n")[:-1] if status == 0 else None
+        """The text of `brk explain`."""
+        return self.run("explain", "trade", str(trade))[1].split("\n")[:-1]
 
 
 class Program:
