@@ -1,0 +1,80 @@
+"""Amounts, stamps and days: their arithmetic, their limits, and the one text of each."""
+
+import datetime
+import re
+
+MOST_MONEY = 10**17  # cents, either way
+MOST_PRICE = 9_999_999
+MOST_CHARGE = 1_000_000
+MOST_RATE = 10_000  # hundredths of a percent
+MOST_TAX_RATE = 100_000  # thousandths of a percent
+MOST_STAMP = 253_402_300_799_999  # milliseconds since 1970-01-01 UTC
+DAY = 86_400_000  # milliseconds
+MOST_DAY = MOST_STAMP // DAY
+EPOCH = datetime.date(1970, 1, 1).toordinal()
+
+WHOLE_FORM = re.compile("0|[1-9][0-9]*")
+CENTS_FORM = re.compile(r"(-?)(0|[1-9][0-9]*)\.([0-9]{2})")
+DAY_FORM = re.compile("([0-9]{4})-([0-9]{2})-([0-9]{2})")
+
+
+def half_up(n, d):
+    return (2 * n + d) // (2 * d)
+
+
+def commission(rate, quantity, price):
+    return half_up(rate * quantity * price, 10_000)
+
+
+def tax(gain, rates):
+    """The tax of a gain: one rounding for a trade. A loss bears none."""
+    return half_up(gain * rates, 100_000) if gain > 0 else 0
+
+
+def stamp_after(last, moment):
+    """The stamp of the next accepted command, or None at the end of the clock."""
+    stamp = moment if last is None else max(moment, last + 1)
+    return stamp if stamp <= MOST_STAMP else None
+
+
+def day_of(stamp):
+    return stamp // DAY
+
+
+def parse_whole(text, most):
+    """A number of any length is read, so a long one is only too great."""
+    if not WHOLE_FORM.fullmatch(text) or len(text) > len(str(most)) or int(text) > most:
+        return None
+    return int(text)
+
+
+def parse_cents(text):
+    """The cents of an amount within 10^17 either way; 0.00 has no minus."""
+    form = CENTS_FORM.fullmatch(text)
+    if not form:
+        return None
+    sign, units, rest = form.groups()
+    cents = parse_whole((units + rest).lstrip("0") or "0", MOST_MONEY)
+    if cents is None or (sign and cents == 0):
+        return None
+    return -cents if sign else cents
+
+
+def cents_text(cents):
+    return f"{'-' * (cents < 0)}{abs(cents) // 100}.{abs(cents) % 100:02}"
+
+
+def parse_day(text):
+    """The number of a day, from 1970-01-01 to 9999-12-31."""
+    form = DAY_FORM.fullmatch(text)
+    if not form:
+        return None
+    try:
+        day = datetime.date(*map(int, form.groups())).toordinal() - EPOCH
+    except ValueError:
+        return None
+    return day if day >= 0 else None
+
+
+def day_text(day):
+    return datetime.date.fromordinal(EPOCH + day).isoformat()

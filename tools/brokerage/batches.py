@@ -1,0 +1,75 @@
+"""Batches: bytes of CSV in, lines out."""
+
+import re
+
+from .forms import BATCH, parse_row
+from .refusals import Refusal, Refused
+
+MOST_BYTES = 67_108_864
+BYTE_ORDER_MARK = b"\xef\xbb\xbf"
+LINE_ENDS = re.compile(b"[\r\n]*")
+PLAIN = re.compile(b"[^,\r\n]*")
+QUOTED = re.compile(b'"((?:[^"]|"")*)"?')
+
+BAD_HEADER, NO_END, BAD_END = "bad header", "no end", "bad end"
+FIRST_WORDS = {"ok": 0, "again": 1, "no": 2}
+
+
+def records(data):
+    """The records of a CSV text, each a list of fields. Empty lines are none. Each of CR, LF and CR LF ends a record.
+
+    A field that begins with a quote ends at the next single one; what follows up to the comma belongs to it as it stands."""
+    place = len(BYTE_ORDER_MARK) if data.startswith(BYTE_ORDER_MARK) else 0
+    while True:
+        place = LINE_ENDS.match(data, place).end()
+        if place == len(data):
+            return
+        fields = []
+        while True:
+            value, quoted = b"", QUOTED.match(data, place)
+            if quoted:
+                value, place = quoted[1].replace(b'""', b'"'), quoted.end()
+            rest = PLAIN.match(data, place)
+            place = rest.end()
+            fields.append((value + rest[0]).decode(errors="surrogateescape"))
+            if data[place:place + 1] != b",":
+                break
+            place += 1
+        yield fields
+
+
+def answer(desk, name, n, record, moment):
+    """The word and the fields of a row's line."""
+    try:
+        command = parse_row(record)
+    except Refused as refused:
+        return "no", refused.fields
+    return desk.call(moment, command, (name, n))
+
+
+def run_batch(desk, data, moment):
+    """Does the rows of a batch: the bytes written, and None or (kind, rows) of what ended it early."""
+    rest = records(data[:MOST_BYTES])
+    header = next(rest, [])
+    if len(header) != 2 or header[0] != "batch" or not BATCH.fullmatch(header[1]):
+        return b"", (BAD_HEADER, 0)
+    lines, counts, waiting = [], [0, 0, 0], None
+
+    def settle(word, fields):
+        counts[FIRST_WORDS[word]] += 1
+        lines.append(",".join((str(len(lines) + 1), word, *fields)))
+
+    for record in rest:
+        if waiting is not None:
+            settle(*answer(desk, header[1], len(lines) + 1, waiting, moment))
+        if record[0] == "end":
+            fault = None if record == ["end", str(len(lines))] else (BAD_END, len(lines))
+            break
+        waiting = record
+    else:
+        if waiting is not None:
+            settle("no", [str(int(Refusal.BadText))])
+        fault = NO_END, len(lines)
+    if fault is None:
+        lines.append(",".join(("end", *map(str, counts))))
+    return "".join(line + "\n" for line in lines).encode(errors="surrogateescape"), fault
