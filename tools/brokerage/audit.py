@@ -12,8 +12,9 @@ from .records import (CASH_WORDS, DEPOSIT, LIMITS, MARGIN_WORDS, MOST_ACCOUNTS, 
 from .tables import TABLES, base_of, cash_rows_of, column, rows_of, statuses_of
 
 MOST_CASH_ROWS = 2 * 10**12
+STAMPS = [column_.name for name, table in TABLES.items() if name != "DESK" for column_ in table.columns if column_.form == "stamp"]
 
-# the derived tables in the order of their conditions, each with its columns
+# what is derived, in the order of the conditions: a table, or one column of it
 DERIVED = (
     ("requests", "TRADE_REQUEST", None),
     ("lots", "HOLDING", None),
@@ -64,8 +65,7 @@ def columns_have_form(rows, limits):
 def stamps_are_past(rows):
     """No stamp is above the last one."""
     last = rows["DESK"][0][2]
-    stamps = [stamp for name in rows if name != "DESK" for column_ in TABLES[name].columns if column_.form == "stamp"
-              for stamp in column(rows, column_.name)]
+    stamps = [stamp for name in STAMPS for stamp in column(rows, name)]
     return not stamps or last is not None and max(stamps) <= last
 
 
@@ -103,7 +103,7 @@ def has_form(rows, schema):
             and not overlap(rows)
             and len(set(traded)) == len(traded)
             and len(cash) - len(traded) <= MOST_MOVES
-            and len(rows.get("SETTLE_RULE", ())) <= 1
+            and len(column(rows, "SR_DAY")) <= 1
             and words_have_form(base, rows, cash))
 
 

@@ -2,14 +2,14 @@
 
 import re
 
-from .forms import BATCH, parse_row
-from .refusals import Refusal, Refused
+from .forms import BATCH
+from .refusals import Refusal
 
 MOST_BYTES = 67_108_864
 BYTE_ORDER_MARK = b"\xef\xbb\xbf"
 LINE_ENDS = re.compile(b"[\r\n]*")
 PLAIN = re.compile(b"[^,\r\n]*")
-QUOTED = re.compile(b'"((?:[^"]|"")*)"?')
+QUOTED = re.compile(b'"([^"]*(?:""[^"]*)*)"?')
 
 BAD_HEADER, NO_END, BAD_END = "bad header", "no end", "bad end"
 FIRST_WORDS = {"ok": 0, "again": 1, "no": 2}
@@ -38,15 +38,6 @@ def records(data):
         yield fields
 
 
-def answer(desk, name, n, record, moment):
-    """The word and the fields of a row's line."""
-    try:
-        command = parse_row(record)
-    except Refused as refused:
-        return "no", refused.fields
-    return desk.call(moment, command, (name, n))
-
-
 def run_batch(desk, data, moment):
     """Does the rows of a batch: the bytes written, and None or (kind, rows) of what ended it early."""
     rest = records(data[:MOST_BYTES])
@@ -61,7 +52,7 @@ def run_batch(desk, data, moment):
 
     for record in rest:
         if waiting is not None:
-            settle(*answer(desk, header[1], len(lines) + 1, waiting, moment))
+            settle(*desk.do(moment, waiting, (header[1], len(lines) + 1)))
         if record[0] == "end":
             fault = None if record == ["end", str(len(lines))] else (BAD_END, len(lines))
             break

@@ -1,9 +1,10 @@
 """What follows from the base: lots, histories of lots, summaries, settlements, cash rows, balances, totals of brokers."""
 
+from collections import deque
 from typing import NamedTuple, Optional
 
 from .amounts import day_of
-from .lots import close
+from .lots import close, replace
 from .records import WITHHELD
 
 
@@ -39,16 +40,17 @@ class Books:
         for move in base.moves:
             self.add_cash(move.account, move.amount)
 
-    def closing(self, trade, price, stamp):
-        return close(self.lots.get((trade.account, trade.symbol), ()), trade, price, stamp)
+    def closing(self, trade, price):
+        """What a trade at a price would do to its position."""
+        return close(self.lots.get((trade.account, trade.symbol), ()), trade, price)
 
     def complete(self, trade):
         """Books a completed trade."""
         position = trade.account, trade.symbol
-        closing = self.closing(trade, trade.price, trade.stamp)
-        self.lots[position] = closing.lots
-        self.lot_changes += [(lot, trade.ident, before, after) for lot, before, after in closing.changes]
-        self.summaries[position] = self.summary(*position) + trade.sign * trade.quantity
+        changes = self.closing(trade, trade.price).changes
+        replace(self.lots.setdefault(position, deque()), trade, changes)
+        self.lot_changes += [(lot, trade.ident, before, after) for lot, before, after in changes]
+        self.summaries.setdefault(trade.account, {})[trade.symbol] = self.summary(*position) + trade.sign * trade.quantity
         account = self.base.accounts[trade.account]
         self.settled[trade.ident] = due_day(self.base, trade.stamp), settled_amount(trade, account.tax_status)
         if trade.cash:
@@ -62,15 +64,15 @@ class Books:
         self.cash_count += 1
 
     def summary(self, account, symbol):
-        return self.summaries.get((account, symbol), 0)
+        return self.summaries.get(account, {}).get(symbol, 0)
 
     def balance(self, account):
         return self.base.accounts[account].opening + self.moved.get(account, 0)
 
     def holdings(self, account):
         """The value of what an account holds, at last prices."""
-        return sum(quantity * self.base.last_trades[symbol].price
-                   for (holder, symbol), quantity in self.summaries.items() if holder == account)
+        held = self.summaries.get(account, {})
+        return sum(quantity * self.base.last_trades[symbol].price for symbol, quantity in held.items())
 
     def requests(self):
         return [trade for trade in self.base.trades.values() if trade.status == "PNDG"]

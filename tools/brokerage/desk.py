@@ -6,7 +6,7 @@ from .audit import audit, audit_rows
 from .batches import run_batch
 from .books import Books
 from .database import write
-from .forms import parse_query
+from .forms import parse_query, parse_row
 from .records import MOST_ID, SCHEMA, Base
 from .refusals import Refusal, Refused, require
 from .step import step
@@ -51,6 +51,13 @@ class Desk:
             self.base.kept[key] = command.text, ",".join(fields)
         return "ok", fields
 
+    def do(self, moment, fields, key=None):
+        """Does a row by its fields: the word and the fields of its line."""
+        try:
+            return self.call(moment, parse_row(fields), key)
+        except Refused as refused:
+            return "no", refused.fields
+
     def batch(self, data, moment):
         """Runs a batch: the bytes written, and None or (kind, rows) of what ended it early."""
         return run_batch(self, data, moment)
@@ -59,13 +66,10 @@ class Desk:
         """Serves a stream of requests: the bytes written, and the number of requests answered."""
         return serve(self, data, moment)
 
-    def look(self, view, arguments):
-        """The records of a view whose arguments have their form."""
-        return VIEWS[view](self.base, self.books, *arguments)
-
     def ask(self, view, *texts):
         """The records of a view, each a tuple of texts, or Refused."""
-        return self.look(view, parse_query(view, texts))
+        arguments = parse_query(view, texts)
+        return VIEWS[view](self.base, self.books, *arguments)
 
     def statement(self, account, first, last):
         """The statement of an account for days in their texts, or Refused."""

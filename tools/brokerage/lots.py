@@ -12,26 +12,34 @@ class Lot(NamedTuple):
 
 
 class Closing(NamedTuple):
-    """The position after a trade, (lot, before, after) of each lot that it changed, and the values of the shares closed."""
-    lots: List[Lot]
+    """What a trade does to a position: (lot, before, after) of each lot that changes, and the values of the shares closed."""
     changes: List[Tuple[int, int, int]]
     buy_value: int
     sell_value: int
 
 
-def close(lots, trade, price, stamp):
-    """A trade at a price drops shares of the other sign from its end of the position; what is left of it is appended."""
-    lots, changes, needed, then, now = list(lots), [], trade.quantity, 0, 0
-    end = -1 if trade.lifo else 0
-    while needed and lots and (lots[0].quantity < 0) != (trade.sign < 0):
-        lot = lots.pop(end)
+def close(lots, trade, price):
+    """A trade at a price drops shares of the other sign from its end of the position; what is left of it opens a lot."""
+    changes, needed, then, now = [], trade.quantity, 0, 0
+    faces = bool(lots) and (lots[0].quantity < 0) != (trade.sign < 0)
+    for lot in (reversed(lots) if trade.lifo else lots) if faces else ():
+        if not needed:
+            break
         count = min(needed, abs(lot.quantity))
-        left = lot.quantity + trade.sign * count
-        if left:
-            lots.insert(len(lots) if trade.lifo else 0, lot._replace(quantity=left))
-        changes.append((lot.trade, lot.quantity, left))
+        changes.append((lot.trade, lot.quantity, lot.quantity + trade.sign * count))
         then, now, needed = then + count * lot.price, now + count * price, needed - count
     if needed:
-        lots.append(Lot(trade.ident, price, stamp, trade.sign * needed))
         changes.append((trade.ident, 0, trade.sign * needed))
-    return Closing(lots, changes, *((then, now) if trade.sign < 0 else (now, then)))
+    return Closing(changes, *((then, now) if trade.sign < 0 else (now, then)))
+
+
+def replace(lots, trade, changes):
+    """Makes the changes of a completed trade in its position, a deque."""
+    end = -1 if trade.lifo else 0
+    for _, before, after in changes:
+        if before == 0:
+            lots.append(Lot(trade.ident, trade.price, trade.stamp, after))
+        elif after == 0:
+            del lots[end]
+        else:
+            lots[end] = lots[end]._replace(quantity=after)

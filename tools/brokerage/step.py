@@ -124,7 +124,7 @@ def estimate(base, books, order):
     trade = Trade(len(base.trades) + 1, order.type, order.cash, order.symbol, order.quantity, price, order.account,
                   f"{order.first} {order.last}", charges, 0, order.lifo, ())
     trade = trade._replace(commission=commission_of(base, trade, price))
-    closing = books.closing(trade, price, None)
+    closing = books.closing(trade, price)
     assets = books.balance(order.account) + books.holdings(order.account)
     numbers = (price, closing.buy_value, closing.sell_value, tax_of(base, trade, closing), trade.commission, charges, assets)
     return Estimate(trade, [cents_text(number) for number in numbers])
@@ -194,7 +194,7 @@ def cancel(base, books, trade_id):
 def result(base, books, trade_id, price):
     trade = waiting(base, trade_id, "SBMT")
     owner = base.accounts[trade.account]
-    closing = books.closing(trade, price, None)
+    closing = books.closing(trade, price)
     done = trade._replace(price=price, commission=commission_of(base, trade, price), tax=tax_of(base, trade, closing),
                           settled_as=(CASH_WORDS if trade.cash else MARGIN_WORDS)[0],
                           cash_name=base.cash_name(trade) if trade.cash else "")

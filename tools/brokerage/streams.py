@@ -3,7 +3,8 @@
 import json
 import re
 
-from .forms import BATCH, QUERIES, parse_query, parse_row, parse_whole
+from .amounts import parse_whole
+from .forms import BATCH, QUERIES
 from .records import MOST_ID
 from .refusals import Refused
 
@@ -85,11 +86,11 @@ def route(desk, target, moment):
     """What answers the texts of a request to this target, or None. Nothing in a target is decoded."""
     words = target.split("/")
     if target == "/rows":
-        return lambda texts: desk.call(moment, parse_row(texts))
+        return lambda texts: desk.do(moment, texts)
     if len(words) == 4 and words[:2] == ["", "rows"] and BATCH.fullmatch(words[2]) and parse_whole(words[3], MOST_ID):
-        return lambda texts: desk.call(moment, parse_row(texts), (words[2], int(words[3])))
+        return lambda texts: desk.do(moment, texts, (words[2], int(words[3])))
     if len(words) == 3 and words[:2] == ["", "ask"] and words[2] in QUERIES:
-        return lambda texts: ("view", desk.look(words[2], parse_query(words[2], texts)))
+        return lambda texts: ("view", desk.ask(words[2], *texts))
     return None
 
 

@@ -76,6 +76,7 @@ class Table(NamedTuple):
 
 TABLES = {name: Table(name, tuple(Column(*form.groups(default="")) for form in COLUMN.finditer(text)))
           for name, text in COLUMNS.items()}
+PLACES = {name: (table.name, place) for table in TABLES.values() for place, name in enumerate(table.names())}
 
 
 def tables_of(schema):
@@ -109,7 +110,8 @@ def rows_of(base, books=None, schema=SCHEMA):
                           for trade in books.requests()],
         "HOLDING": [(lot.trade, account, symbol, lot.stamp, lot.price, lot.quantity)
                     for (account, symbol), lots in books.lots.items() for lot in lots],
-        "HOLDING_SUMMARY": [(*position, quantity) for position, quantity in books.summaries.items() if quantity],
+        "HOLDING_SUMMARY": [(account, symbol, quantity) for account, held in books.summaries.items()
+                            for symbol, quantity in held.items() if quantity],
         "HOLDING_HISTORY": books.lot_changes,
         "SETTLEMENT": [(trade.ident, trade.settled_as, *books.settled[trade.ident]) for trade in completed],
         "CASH_TRANSACTION": [] if schema >= ADDED["CASH_MOVE"] else [(trade, *rest) for _, _, trade, *rest in cash],
@@ -129,10 +131,9 @@ def statuses_of(rows):
 
 
 def column(rows, name):
-    """The values of a column, by key."""
-    table = next(table for table in TABLES.values() if name in table.names())
-    place = table.names().index(name)
-    return [row[place] for row in rows[table.name]]
+    """The values of a column, by key. A table that an older schema does not have gives none."""
+    table, place = PLACES[name]
+    return [row[place] for row in rows.get(table, ())]
 
 
 def cash_rows_of(rows):
@@ -165,5 +166,5 @@ def base_of(rows):
         base.trades[ident] = Trade(ident, kind, bool(is_cash), symbol, quantity, bid, account, executor, charge, commission,
                                    bool(lifo), statuses.get(ident, ()), tax, price, settled_as.get(ident, ""), cash_names.get(ident, ""))
     base.moves = [Move(account, stamp, amount, name) for account, trade, stamp, amount, name in cash if trade is None]
-    base.one_day = next((day for _, day in rows.get("SETTLE_RULE", ())), None)
+    base.one_day = next(iter(column(rows, "SR_DAY")), None)
     return base

@@ -76,6 +76,18 @@ def written(data):
     return [escaped(piece) for piece in pieces[:-1]] + [escaped(pieces[-1]) + "\\"] * (pieces[-1] != "")
 
 
+def input_line(text):
+    """The text of an input line: as an output line has it, but for a space at its end."""
+    line = escaped(text)
+    return line[:-1] + "\\x20" if line.endswith(" ") else line
+
+
+def input_lines(data):
+    """The input lines of a block."""
+    pieces = data.decode(errors="surrogateescape").split("\n")
+    return [input_line(piece) for piece in pieces[:-1]] + [input_line(pieces[-1]) + "\\"] * (pieces[-1] != "")
+
+
 def record(fields):
     texts = ("\x00" if field is None else str(field) for field in fields)
     return "|".join(escaped(text).replace("|", "\\x7c") for text in texts)
