@@ -202,7 +202,7 @@ def result(base, books, trade_id, price):
     summary = books.summary(trade.account, trade.symbol) + trade.sign * trade.quantity
     balance = books.balance(trade.account) + (amount if trade.cash else 0)
     require(abs(summary) <= LIMITS[SCHEMA].summary, Refusal.Range, "summary")
-    require(not trade.cash or abs(balance) <= MOST_MONEY, Refusal.Range, "balance")
+    require(abs(balance) <= MOST_MONEY, Refusal.Range, "balance")
     require(books.commissions.get(owner.broker, 0) + done.commission <= MOST_MONEY, Refusal.Range, "broker")
 
     def act(stamp):

@@ -18,6 +18,7 @@ from .tables import tables_of
 ESCAPE = re.compile(r"\\(\\|r|x[0-9a-fA-F]{2})".encode())
 ESCAPED = re.compile("[\\\\\x00-\x1f\x7f\udc80-\udcff]")
 WITH_TEXTS = ("ask", "batch", "http", "print", "sql")
+# commands with which a transcript is left out, and why
 LEFT_OUT = {"$": "the program's files and exit statuses", "test": "tests in Rattle", "explain": "explanations have no rule here"}
 SURROGATES = 0xdc00  # a byte of no character is this and its value
 
@@ -214,5 +215,5 @@ def check(paths, folder):
             print(f"{path.name}:{line}: expected {theirs}\n{path.name}:{line}: worked out {ours}", flush=True)
             differs = True
         passed, failed = passed + (not differs), failed + differs
-    print("left out: " + "; ".join(f"{' '.join(names)} ({why})" for why, names in left_out.items()) if left_out else "left out: none")
+    print("not worked out: " + ("; ".join(f"{' '.join(names)} ({why})" for why, names in left_out.items()) or "none"))
     return passed, failed
