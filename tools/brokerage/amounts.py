@@ -1,16 +1,16 @@
-"""Amounts, stamps and days: their arithmetic, their limits, and the one text of each."""
+"""Amounts, stamps and days: their arithmetic, their limits, and the one text of each value."""
 
 import datetime
 import re
 
 MOST_MONEY = 10**17  # cents, either way
-MOST_PRICE = 9_999_999
-MOST_CHARGE = 1_000_000
-MOST_RATE = 10_000  # hundredths of a percent
+MOST_PRICE = 9_999_999  # cents
+MOST_CHARGE = 1_000_000  # cents
+MOST_RATE = 10_000  # hundredths of a percent: of a commission
 MOST_TAX_RATE = 100_000  # thousandths of a percent
 MOST_STAMP = 253_402_300_799_999  # milliseconds since 1970-01-01 UTC
 DAY = 86_400_000  # milliseconds
-MOST_DAY = MOST_STAMP // DAY
+MOST_DAY = MOST_STAMP // DAY  # 9999-12-31, in days since 1970-01-01
 EPOCH = datetime.date(1970, 1, 1).toordinal()
 
 WHOLE_FORM = re.compile("0|[1-9][0-9]*")
@@ -23,16 +23,16 @@ def half_up(n, d):
 
 
 def commission(rate, quantity, price):
-    return half_up(rate * quantity * price, 10_000)
+    return half_up(rate * quantity * price, MOST_RATE)
 
 
 def tax(gain, rates):
-    """The tax of a gain: one rounding for a trade. A loss bears none."""
-    return half_up(gain * rates, 100_000) if gain > 0 else 0
+    """Returns the tax of a gain, rounded once for a trade. A loss has none."""
+    return half_up(gain * rates, MOST_TAX_RATE) if gain > 0 else 0
 
 
 def stamp_after(last, moment):
-    """The stamp of the next accepted command, or None at the end of the clock."""
+    """Returns the stamp of the next accepted command, or None at the end of the clock."""
     stamp = moment if last is None else max(moment, last + 1)
     return stamp if stamp <= MOST_STAMP else None
 
@@ -42,22 +42,22 @@ def day_of(stamp):
 
 
 def parse_whole(text, most):
-    """A number of any length is read, so a long one is only too great."""
+    """Returns a number from 0 to `most`, or None. A text of any length is read."""
     if not WHOLE_FORM.fullmatch(text) or len(text) > len(str(most)) or int(text) > most:
         return None
     return int(text)
 
 
 def parse_cents(text):
-    """The cents of an amount within 10^17 either way; 0.00 has no minus."""
+    """Returns the cents of an amount, or None. 0.00 has no minus."""
     form = CENTS_FORM.fullmatch(text)
     if not form:
         return None
-    sign, units, rest = form.groups()
+    minus, units, rest = form.groups()
     cents = parse_whole((units + rest).lstrip("0") or "0", MOST_MONEY)
-    if cents is None or (sign and cents == 0):
+    if cents is None or (minus and cents == 0):
         return None
-    return -cents if sign else cents
+    return -cents if minus else cents
 
 
 def cents_text(cents):
@@ -65,7 +65,7 @@ def cents_text(cents):
 
 
 def parse_day(text):
-    """The number of a day, from 1970-01-01 to 9999-12-31."""
+    """Returns the number of a day from 1970-01-01 to 9999-12-31, or None."""
     form = DAY_FORM.fullmatch(text)
     if not form:
         return None

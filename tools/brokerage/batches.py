@@ -1,4 +1,4 @@
-"""Batches: bytes of CSV in, lines out."""
+"""Batches: CSV rows in, lines out."""
 
 import re
 
@@ -12,13 +12,13 @@ PLAIN = re.compile(b"[^,\r\n]*")
 QUOTED = re.compile(b'"([^"]*(?:""[^"]*)*)"?')
 
 BAD_HEADER, NO_END, BAD_END = "bad header", "no end", "bad end"
-FIRST_WORDS = {"ok": 0, "again": 1, "no": 2}
+WORDS = ("ok", "again", "no")
 
 
 def records(data):
-    """The records of a CSV text, each a list of fields. Empty lines are none. Each of CR, LF and CR LF ends a record.
+    """Yields the records of a CSV text as lists of fields. CR, LF or CR LF ends a record.
 
-    A field that begins with a quote ends at the next single one; what follows up to the comma belongs to it as it stands."""
+    Empty lines are skipped. After the closing quote of a field its other bytes are literal."""
     place = len(BYTE_ORDER_MARK) if data.startswith(BYTE_ORDER_MARK) else 0
     while True:
         place = LINE_ENDS.match(data, place).end()
@@ -39,15 +39,17 @@ def records(data):
 
 
 def run_batch(desk, data, moment):
-    """Does the rows of a batch: the bytes written, and None or (kind, rows) of what ended it early."""
+    """Runs a batch; returns the written bytes, and (kind, rows) if it is not complete.
+
+    A row is executed once the record after it is read; the last row of a cut input is refused."""
     rest = records(data[:MOST_BYTES])
     header = next(rest, [])
     if len(header) != 2 or header[0] != "batch" or not BATCH.fullmatch(header[1]):
         return b"", (BAD_HEADER, 0)
-    lines, counts, waiting = [], [0, 0, 0], None
+    lines, counts, waiting = [], dict.fromkeys(WORDS, 0), None
 
     def settle(word, fields):
-        counts[FIRST_WORDS[word]] += 1
+        counts[word] += 1
         lines.append(",".join((str(len(lines) + 1), word, *fields)))
 
     for record in rest:
@@ -62,5 +64,5 @@ def run_batch(desk, data, moment):
             settle("no", [str(int(Refusal.BadText))])
         fault = NO_END, len(lines)
     if fault is None:
-        lines.append(",".join(("end", *map(str, counts))))
+        lines.append(",".join(("end", *map(str, counts.values()))))
     return "".join(line + "\n" for line in lines).encode(errors="surrogateescape"), fault

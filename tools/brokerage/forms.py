@@ -1,16 +1,16 @@
-"""The forms of fields, of rows and of queries: fields in, a command or a query out, or the first refusal of form.
+"""The forms of fields, rows and queries: the texts of a row become a command, or are refused.
 
-Texts are those of Python, in which a byte that is no UTF-8 is a lone surrogate ("surrogateescape")."""
+A byte that is no UTF-8 is a lone surrogate in a text ("surrogateescape")."""
 
 import re
 from typing import NamedTuple, Tuple
 
-from .amounts import (MOST_CHARGE, MOST_MONEY, MOST_PRICE, MOST_RATE, MOST_STAMP, MOST_TAX_RATE, parse_cents, parse_day,
-                      parse_whole)
+from .amounts import (MOST_CHARGE, MOST_MONEY, MOST_PRICE, MOST_RATE, MOST_STAMP, MOST_TAX_RATE,
+                      parse_cents, parse_day, parse_whole)
 from .records import LIMITS, MOST_ID, SCHEMA, TYPES
 from .refusals import ORDER, Refusal, Refused, require
 
-MOST_GROUPS = 20  # of a feed, ids of an update, names of a view
+MOST_GROUPS = 20  # groups of a feed, ids of an update or a view, names of a view
 MOST_NAME = 60  # bytes
 CONTROL = re.compile("[\x00-\x1f\x7f-\x9f]")
 SYMBOL = re.compile("[A-Z0-9.-]{1,15}")
@@ -29,7 +29,7 @@ def is_name(text):
 
 
 def given(value, refusal=Refusal.BadText):
-    """A value that was parsed, or the refusal of its field."""
+    """Returns a parsed value, or refuses its field."""
     require(value is not None, refusal)
     return value
 
@@ -88,12 +88,11 @@ symbol = matched(SYMBOL)
 exchange = matched(EXCHANGE)
 tax_id = matched(TAX_ID)
 acl = matched(ACL)
-batch = matched(BATCH)
 trade_type = one_of(TYPES, Refusal.BadType)
 
 
 def read_all(forms, texts):
-    """The values of fields that each have a form. All are read before one is refused: the first refusal by order is told."""
+    """Returns the values of fields, a form for each. If several are refused, the first by order is raised."""
     require(len(forms) == len(texts), Refusal.BadText)
     values, refusals = [], []
     for form, text in zip(forms, texts):
@@ -110,7 +109,7 @@ def fields(*forms):
 
 
 def not_below(first_text):
-    """The last quantity of a band. Below the first one it is refused as a quantity."""
+    """Returns the form of a band's last quantity, which is refused below the first one."""
     def read(text):
         value, first = quantity(text), parse_whole(first_text, LIMITS[SCHEMA].quantity)
         require(first is None or first <= value, Refusal.BadQty)
@@ -124,7 +123,9 @@ def read_band(texts):
 
 
 def order_price(type_text):
-    """The price of an order: none for a market type, one for the others, either for a type that is none."""
+    """Returns the form of an order's price: a market type has none, the other types have one.
+
+    Of an unknown type the price may be both."""
     def read(text):
         if text == "":
             require(type_text not in TYPES or TYPES[type_text].market, Refusal.BadPrice)
@@ -150,14 +151,14 @@ class Order(NamedTuple):
 
 def read_order(texts):
     asked = order_price(texts[1] if len(texts) > 1 else "")
-    values = read_all((ident, trade_type, symbol, quantity, asked, one_of(("cash", "margin")), one_of(("fifo", "lifo")),
-                       name, name, tax_id), texts)
-    order = Order(*values)
+    cash, end = one_of(("cash", "margin")), one_of(("fifo", "lifo"))
+    forms = ident, trade_type, symbol, quantity, asked, cash, end, name, name, tax_id
+    order = Order(*read_all(forms, texts))
     return [order._replace(cash=order.cash == "cash", lifo=order.lifo == "lifo")]
 
 
 def read_feed(texts):
-    """Groups of a symbol, a price and a quantity. Their number is tested last."""
+    """Reads groups of a symbol, a price and a quantity. The number of groups is tested last."""
     require(texts and len(texts) % 3 == 0, Refusal.BadText)
     values = read_all((symbol, price, quantity) * (len(texts) // 3), texts)
     require(len(values) <= 3 * MOST_GROUPS, Refusal.TooMany)
@@ -165,7 +166,7 @@ def read_feed(texts):
 
 
 def read_ids(texts):
-    """Different ids. Their number is tested last."""
+    """Reads different ids. The number of ids is tested last."""
     require(texts, Refusal.BadText)
     values = read_all((ident,) * len(texts), texts)
     require(len(set(values)) == len(values), Refusal.BadText)
@@ -174,7 +175,7 @@ def read_ids(texts):
 
 
 def read_names(texts):
-    """A sector and names. A name that stands twice counts once."""
+    """Reads a sector and names. A repeated name counts once."""
     require(len(texts) > 1, Refusal.BadText)
     sector, *names = read_all((name,) * len(texts), texts)
     require(len(set(names)) <= MOST_GROUPS, Refusal.TooMany)
@@ -220,16 +221,16 @@ QUERIES = {
 class Command(NamedTuple):
     kind: str
     values: Tuple
-    text: str  # its one spelling, which is kept with a key
+    text: str  # its fields, which are kept with a key and compared
 
 
 def parse_row(texts):
-    """The command of a row's fields."""
+    """Returns the command of a row's fields."""
     require(texts and texts[0] in ROWS, Refusal.BadText)
     return Command(texts[0], ROWS[texts[0]](texts[1:]), SEPARATOR.join(texts))
 
 
 def parse_query(view, texts):
-    """The arguments of a view."""
+    """Returns the arguments of a view."""
     require(view in QUERIES, Refusal.BadText)
     return QUERIES[view](texts)

@@ -1,10 +1,10 @@
-"""Positions: runs of equal shares in the order of their opening, and what a trade does to them."""
+"""Positions, as lots in the order of their opening, and the effect of a trade on them."""
 
 from typing import List, NamedTuple, Tuple
 
 
 class Lot(NamedTuple):
-    """The open shares of one trade; a quantity below 0 is sold short."""
+    """The open shares of one trade: a run of equal shares. A quantity below 0 is sold short."""
     trade: int
     price: int
     stamp: int
@@ -12,17 +12,19 @@ class Lot(NamedTuple):
 
 
 class Closing(NamedTuple):
-    """What a trade does to a position: (lot, before, after) of each lot that changes, and the values of the shares closed."""
+    """The lots that a trade changes, as (lot, before, after), and the values of the closed shares."""
     changes: List[Tuple[int, int, int]]
     buy_value: int
     sell_value: int
 
 
 def close(lots, trade, price):
-    """A trade at a price drops shares of the other sign from its end of the position; what is left of it opens a lot."""
+    """Returns the closing by a trade at a price.
+
+    The trade closes shares of the other sign from its end of the position. The rest opens a lot."""
     changes, needed, then, now = [], trade.quantity, 0, 0
-    faces = bool(lots) and (lots[0].quantity < 0) != (trade.sign < 0)
-    for lot in (reversed(lots) if trade.lifo else lots) if faces else ():
+    opposite = bool(lots) and (lots[0].quantity < 0) != (trade.sign < 0)
+    for lot in (reversed(lots) if trade.lifo else lots) if opposite else ():
         if not needed:
             break
         count = min(needed, abs(lot.quantity))
@@ -33,7 +35,7 @@ def close(lots, trade, price):
     return Closing(changes, *((then, now) if trade.sign < 0 else (now, then)))
 
 
-def replace(lots, trade, changes):
+def book(lots, trade, changes):
     """Makes the changes of a completed trade in its position, a deque."""
     end = -1 if trade.lifo else 0
     for _, before, after in changes:

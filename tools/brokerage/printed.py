@@ -1,6 +1,7 @@
 """Views as `brk ask` prints them: as CSV or JSON, with or without the names of their fields.
 
-The rules of the trade have nothing of this: forms and names are those of docs/formats/queries.md and of the transcripts."""
+The rules do not know this command. Its forms are those of docs/formats/queries.md, the names of
+fields those of the transcripts."""
 
 import json
 
@@ -14,7 +15,9 @@ HEADS = {
 
 
 def csv_field(text):
-    return '"' + text.replace('"', '""') + '"' if any(mark in text for mark in ',"\r\n') else text
+    if not any(mark in text for mark in ',"\r\n'):
+        return text
+    return '"' + text.replace('"', '""') + '"'
 
 
 def csv_line(record):
@@ -22,7 +25,7 @@ def csv_line(record):
 
 
 def printed(form, view, records):
-    """The text of a view in the form csv, json, csv-heads or json-heads."""
+    """Returns the text of a view in the form `csv`, `json`, `csv-heads` or `json-heads`."""
     kind, _, heads = form.partition("-")
     rows = [HEADS[view], *records] if heads and view in HEADS else records
     if kind == "json":

@@ -1,4 +1,4 @@
-"""What a desk keeps: reference records, trades, movements of cash, kept keys."""
+"""What a desk keeps: reference records, trades, movements of cash, and the rows kept with keys."""
 
 from typing import Dict, List, NamedTuple, Optional, Set, Tuple
 
@@ -10,12 +10,16 @@ MOST_ACCOUNTS = 10  # of a customer
 
 
 class Limits(NamedTuple):
-    """What a schema allows of quantities."""
+    """The limits of quantities in a schema."""
     quantity: int
     summary: int  # either way
 
 
-LIMITS = {1: Limits(999_999, 999_999_999), 2: Limits(999_999, 999_999_999), 3: Limits(9_999_999, 9_999_999_999)}
+LIMITS = {
+    1: Limits(999_999, 999_999_999),
+    2: Limits(999_999, 999_999_999),
+    3: Limits(9_999_999, 9_999_999_999),
+}
 
 
 class Type(NamedTuple):
@@ -31,16 +35,22 @@ TYPES = {
     "TLS": Type("Limit-Sell", True, False),
     "TLB": Type("Limit-Buy", False, False),
 }
-STATUSES = {"CMPT": "Completed", "ACTV": "Active", "SBMT": "Submitted", "PNDG": "Pending", "CNCL": "Canceled"}
-# the statuses that may come next, from None on
-NEXT_STATUSES = {None: ("SBMT", "PNDG"), "PNDG": ("SBMT", "CNCL"), "SBMT": ("CMPT",), "CNCL": (), "CMPT": (), "ACTV": ()}
+STATUSES = {
+    "CMPT": "Completed",
+    "ACTV": "Active",
+    "SBMT": "Submitted",
+    "PNDG": "Pending",
+    "CNCL": "Canceled",
+}
+# the statuses that may follow a status; None is before the first one
+NEXT_STATUSES = {None: ("SBMT", "PNDG"), "PNDG": ("SBMT", "CNCL"), "SBMT": ("CMPT",)}
 
 UNTAXED, WITHHELD, REPORTED = 0, 1, 2
 
-# the words of a settlement, the first one first
+# the cash types of a settlement, the first one first
 CASH_WORDS = ("Cash Account", "Cash")
 MARGIN_WORDS = ("Margin", "Margin Account")
-# the words between quantity and name of a cash row, the first one first
+# the words between the quantity and the security's name in a cash row, the first one first
 SHARES_WORDS = (" shares of ", " Shares of ")
 DEPOSIT, WITHDRAWAL = "Deposit", "Withdrawal"
 
@@ -82,6 +92,7 @@ class LastTrade(NamedTuple):
 
 
 class Band(NamedTuple):
+    """The commission rate of the quantities from `first` to `last`, both included."""
     first: int
     last: int
     rate: int
@@ -129,7 +140,7 @@ class Trade(NamedTuple):
 
 
 class Move(NamedTuple):
-    """A deposit or a withdrawal."""
+    """A deposit, or a withdrawal, whose amount is below 0."""
     account: int
     stamp: int
     amount: int
@@ -143,28 +154,31 @@ class Base:
         self.brokers: Dict[int, str] = {}
         self.customers: Dict[int, Customer] = {}
         self.accounts: Dict[int, Account] = {}
-        self.permissions: Dict[Tuple[int, str], Permission] = {}
+        self.permissions: Dict[Tuple[int, str], Permission] = {}  # by account and tax id
         self.securities: Dict[str, Security] = {}
         self.last_trades: Dict[str, LastTrade] = {}
-        self.charges: Dict[Tuple[str, int], int] = {}
-        self.bands: Dict[Tuple[int, str, str], List[Band]] = {}
+        self.charges: Dict[Tuple[str, int], int] = {}  # by type and tier
+        self.bands: Dict[Tuple[int, str, str], List[Band]] = {}  # by tier, type and exchange
         self.taxes: Dict[int, TaxRate] = {}
         self.customer_taxes: Set[Tuple[int, int]] = set()
         self.trades: Dict[int, Trade] = {}
         self.moves: List[Move] = []
-        self.one_day: Optional[int] = None
-        self.kept: Dict[Tuple[str, int], Tuple[str, str]] = {}
+        self.one_day: Optional[int] = None  # the first day of one-day settlement
+        self.kept: Dict[Tuple[str, int], Tuple[str, str]] = {}  # by batch and number: row, line
         self.last_stamp: Optional[int] = None
 
     def customer_of(self, account):
         return self.customers[self.accounts[account].customer]
 
     def rates_of(self, customer):
-        """The sum of a customer's tax rates."""
+        """Returns the sum of the customer's tax rates."""
         return sum(self.taxes[tax].rate for owner, tax in self.customer_taxes if owner == customer)
 
     def days_to_settle(self, day):
+        """Returns the days from a completion on `day` to its due day."""
         return 1 if self.one_day is not None and day >= self.one_day else 2
 
     def cash_name(self, trade, word=SHARES_WORDS[0]):
-        return f"{TYPES[trade.type].name} {trade.quantity}{word}{self.securities[trade.symbol].name}"
+        """Returns the text of a trade's cash row."""
+        name = self.securities[trade.symbol].name
+        return f"{TYPES[trade.type].name} {trade.quantity}{word}{name}"

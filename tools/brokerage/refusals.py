@@ -32,7 +32,7 @@ ORDER = {refusal: place for place, refusal in enumerate(Refusal)}
 
 
 class Refused(Exception):
-    """A refusal with its words: the status of WrongStatus, the limit of Range."""
+    """A refusal, with the status of a WrongStatus or the limit of a Range."""
 
     def __init__(self, refusal, *words):
         super().__init__(refusal, *words)

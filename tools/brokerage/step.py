@@ -1,20 +1,23 @@
-"""One command upon a base: the first refusal that holds, or the new base and the fields of the reply after the stamp.
+"""The commands. Each kind is a function that raises the first refusal that holds, or returns `act`.
 
-Each kind is a function that tests, and answers what is to be done at the stamp. So a command that is refused changes nothing."""
+`act` changes the base at the command's stamp, and returns the fields of the reply after the stamp.
+So a refused command changes nothing."""
 
 from typing import NamedTuple
 
-from .amounts import MOST_DAY, MOST_MONEY, MOST_TAX_RATE, cents_text, commission, day_of, day_text, stamp_after, tax
+from .amounts import (MOST_DAY, MOST_MONEY, MOST_TAX_RATE, cents_text, commission, day_of, day_text,
+                      stamp_after, tax)
 from .books import due_day, settled_amount
-from .records import (CASH_WORDS, DEPOSIT, LIMITS, MARGIN_WORDS, MOST_ACCOUNTS, MOST_MOVES, MOST_TRADES, SCHEMA, SHARES_WORDS,
-                      TYPES, UNTAXED, WITHDRAWAL, Account, Band, Customer, LastTrade, Move, Permission, Security, TaxRate, Trade)
+from .records import (CASH_WORDS, DEPOSIT, LIMITS, MARGIN_WORDS, MOST_ACCOUNTS, MOST_MOVES,
+                      MOST_TRADES, SCHEMA, SHARES_WORDS, TYPES, UNTAXED, WITHDRAWAL, Account, Band,
+                      Customer, LastTrade, Move, Permission, Security, TaxRate, Trade)
 from .refusals import Refusal, require
 
 MOST_UPDATED = 20  # trades of an update
 
 
 def put(table, key, record):
-    """A new record under a key that has none."""
+    """Adds a record under a key that has none."""
     require(key not in table, Refusal.Exists)
 
     def act(_):
@@ -35,7 +38,8 @@ def customer(base, books, ident, tier, tax_id, last, first):
 def account(base, books, ident, customer_id, broker_id, name, tax_status, opening):
     require(customer_id in base.customers, Refusal.NoCustomer)
     require(broker_id in base.brokers, Refusal.NoBroker)
-    act = put(base.accounts, ident, Account(ident, customer_id, broker_id, name, tax_status, opening))
+    opened = Account(ident, customer_id, broker_id, name, tax_status, opening)
+    act = put(base.accounts, ident, opened)
     owned = sum(other.customer == customer_id for other in base.accounts.values())
     require(owned < MOST_ACCOUNTS, Refusal.Range, "accounts")
     return act
@@ -77,7 +81,8 @@ def custtax(base, books, customer_id, tax_id):
     require(customer_id in base.customers, Refusal.NoCustomer)
     require(tax_id in base.taxes, Refusal.NoTax)
     require((customer_id, tax_id) not in base.customer_taxes, Refusal.Exists)
-    require(base.rates_of(customer_id) + base.taxes[tax_id].rate <= MOST_TAX_RATE, Refusal.TaxSum)
+    total = base.rates_of(customer_id) + base.taxes[tax_id].rate
+    require(total <= MOST_TAX_RATE, Refusal.TaxSum)
 
     def act(_):
         base.customer_taxes.add((customer_id, tax_id))
@@ -86,30 +91,33 @@ def custtax(base, books, customer_id, tax_id):
 
 
 def permitted(base, order):
-    """Whether the executor is the customer, or a person with a permission for the account: both names and the tax id count."""
-    owner, other = base.customer_of(order.account), base.permissions.get((order.account, order.tax_id))
-    names = order.first, order.last
-    return (owner.tax_id == order.tax_id and (owner.first, owner.last) == names
-            or other is not None and (other.first, other.last) == names)
+    """Returns whether both names and the tax id are the customer's, or those of a permission."""
+    owner, names = base.customer_of(order.account), (order.first, order.last)
+    if owner.tax_id == order.tax_id and (owner.first, owner.last) == names:
+        return True
+    other = base.permissions.get((order.account, order.tax_id))
+    return other is not None and (other.first, other.last) == names
 
 
 def commission_of(base, trade, price):
-    """The commission of a trade at a price, by the bands of now."""
-    key = base.customer_of(trade.account).tier, trade.type, base.securities[trade.symbol].exchange
-    rates = [band.rate for band in base.bands.get(key, ()) if band.first <= trade.quantity <= band.last]
+    """Returns the commission of a trade at a price, with the bands of now."""
+    tier, exchange = base.customer_of(trade.account).tier, base.securities[trade.symbol].exchange
+    bands = base.bands.get((tier, trade.type, exchange), ())
+    rates = [band.rate for band in bands if band.first <= trade.quantity <= band.last]
     require(rates, Refusal.NoRate)
     return commission(rates[0], trade.quantity, price)
 
 
 def tax_of(base, trade, closing):
-    """The tax of a trade's gain, by the rates of now."""
-    if base.accounts[trade.account].tax_status == UNTAXED:
+    """Returns the tax of a closing's gain, with the rates of now."""
+    account = base.accounts[trade.account]
+    if account.tax_status == UNTAXED:
         return 0
-    return tax(closing.sell_value - closing.buy_value, base.rates_of(base.accounts[trade.account].customer))
+    return tax(closing.sell_value - closing.buy_value, base.rates_of(account.customer))
 
 
 class Estimate(NamedTuple):
-    """A trade as it would be ordered, before its statuses, and the numbers of its reply."""
+    """A trade as it would be ordered, without a status, and the numbers of its reply."""
     trade: Trade
     fields: list
 
@@ -118,15 +126,19 @@ def estimate(base, books, order):
     require(order.account in base.accounts, Refusal.NoAccount)
     require(order.symbol in base.securities, Refusal.NoSecurity)
     require(permitted(base, order), Refusal.NotPermitted)
-    charges = base.charges.get((order.type, base.customer_of(order.account).tier))
-    require(charges is not None, Refusal.NoCharge)
+    cost = base.charges.get((order.type, base.customer_of(order.account).tier))
+    require(cost is not None, Refusal.NoCharge)
     price = base.last_trades[order.symbol].price if TYPES[order.type].market else order.price
-    trade = Trade(len(base.trades) + 1, order.type, order.cash, order.symbol, order.quantity, price, order.account,
-                  f"{order.first} {order.last}", charges, 0, order.lifo, ())
+    trade = Trade(
+        ident=len(base.trades) + 1, type=order.type, cash=order.cash, symbol=order.symbol,
+        quantity=order.quantity, bid=price, account=order.account,
+        executor=f"{order.first} {order.last}", charge=cost, commission=0, lifo=order.lifo,
+        statuses=())
     trade = trade._replace(commission=commission_of(base, trade, price))
     closing = books.closing(trade, price)
     assets = books.balance(order.account) + books.holdings(order.account)
-    numbers = (price, closing.buy_value, closing.sell_value, tax_of(base, trade, closing), trade.commission, charges, assets)
+    numbers = (price, closing.buy_value, closing.sell_value, tax_of(base, trade, closing),
+               trade.commission, cost, assets)
     return Estimate(trade, [cents_text(number) for number in numbers])
 
 
@@ -143,14 +155,15 @@ def order(base, books, asked):
 
 
 def triggered(trade, price):
+    """Returns whether a last price submits a pending trade."""
     if trade.type == "TLS":
         return trade.bid <= price
     return trade.type in ("TSL", "TLB") and trade.bid >= price
 
 
-def advance(base, trade, stamp, status, **changes):
-    """Gives a trade its next status."""
-    base.trades[trade.ident] = trade._replace(statuses=(*trade.statuses, (stamp, status)), **changes)
+def advance(base, trade, stamp, status):
+    """Adds the next status of a trade, and returns the trade."""
+    base.trades[trade.ident] = trade._replace(statuses=(*trade.statuses, (stamp, status)))
     return base.trades[trade.ident]
 
 
@@ -159,23 +172,24 @@ def feed(base, books, entries):
     added = {}
     for symbol, _, quantity in entries:
         added[symbol] = added.get(symbol, 0) + quantity
-    require(all(base.last_trades[symbol].volume + quantity <= MOST_MONEY for symbol, quantity in added.items()),
-            Refusal.Range, "volume")
+    volumes = [base.last_trades[symbol].volume + quantity for symbol, quantity in added.items()]
+    require(all(volume <= MOST_MONEY for volume in volumes), Refusal.Range, "volume")
 
     def act(stamp):
-        told = []
+        submitted = []
         for symbol, price, quantity in entries:
-            base.last_trades[symbol] = LastTrade(stamp, price, base.last_trades[symbol].volume + quantity)
+            volume = base.last_trades[symbol].volume + quantity
+            base.last_trades[symbol] = LastTrade(stamp, price, volume)
             for trade in sorted(books.requests(), key=lambda trade: trade.ident):
                 if trade.symbol == symbol and triggered(trade, price):
                     advance(base, trade, stamp, "SBMT")
-                    told.append(str(trade.ident))
-        return told
+                    submitted.append(str(trade.ident))
+        return submitted
     return act
 
 
-def waiting(base, trade_id, status):
-    """A trade that has this status."""
+def with_status(base, trade_id, status):
+    """Returns a trade that has this status."""
     require(trade_id in base.trades, Refusal.NoTrade)
     trade = base.trades[trade_id]
     require(trade.status == status, Refusal.WrongStatus, trade.status)
@@ -183,7 +197,7 @@ def waiting(base, trade_id, status):
 
 
 def cancel(base, books, trade_id):
-    trade = waiting(base, trade_id, "PNDG")
+    trade = with_status(base, trade_id, "PNDG")
 
     def act(stamp):
         advance(base, trade, stamp, "CNCL")
@@ -192,25 +206,28 @@ def cancel(base, books, trade_id):
 
 
 def result(base, books, trade_id, price):
-    trade = waiting(base, trade_id, "SBMT")
+    trade = with_status(base, trade_id, "SBMT")
     owner = base.accounts[trade.account]
     closing = books.closing(trade, price)
-    done = trade._replace(price=price, commission=commission_of(base, trade, price), tax=tax_of(base, trade, closing),
-                          settled_as=(CASH_WORDS if trade.cash else MARGIN_WORDS)[0],
-                          cash_name=base.cash_name(trade) if trade.cash else "")
+    done = trade._replace(
+        price=price, commission=commission_of(base, trade, price), tax=tax_of(base, trade, closing),
+        settled_as=(CASH_WORDS if trade.cash else MARGIN_WORDS)[0],
+        cash_name=base.cash_name(trade) if trade.cash else "")
     amount = settled_amount(done, owner.tax_status)
     summary = books.summary(trade.account, trade.symbol) + trade.sign * trade.quantity
     balance = books.balance(trade.account) + (amount if trade.cash else 0)
     require(abs(summary) <= LIMITS[SCHEMA].summary, Refusal.Range, "summary")
     require(abs(balance) <= MOST_MONEY, Refusal.Range, "balance")
-    require(books.commissions.get(owner.broker, 0) + done.commission <= MOST_MONEY, Refusal.Range, "broker")
+    total = books.commission_total(owner.broker) + done.commission
+    require(total <= MOST_MONEY, Refusal.Range, "broker")
 
     def act(stamp):
         due = due_day(base, stamp)
         require(due <= MOST_DAY, Refusal.ClockEnd)
         books.complete(advance(base, done, stamp, "CMPT"))
-        return [cents_text(done.commission), cents_text(done.tax), cents_text(amount), day_text(due),
-                cents_text(closing.buy_value), cents_text(closing.sell_value), cents_text(balance)]
+        return [cents_text(done.commission), cents_text(done.tax), cents_text(amount),
+                day_text(due), cents_text(closing.buy_value), cents_text(closing.sell_value),
+                cents_text(balance)]
     return act
 
 
@@ -219,7 +236,7 @@ def oldest_first(trades):
 
 
 def update(base, trades, change):
-    """Changes words of trades; those chosen are counted, also where a word stays the same."""
+    """Changes words of the chosen trades; a trade counts even if its word stays the same."""
     def act(_):
         for trade in trades:
             base.trades[trade.ident] = change(trade)
@@ -231,14 +248,15 @@ def upname(base, books, trade_ids):
     require(all(ident in base.trades for ident in trade_ids), Refusal.NoTrade)
 
     def change(trade):
-        marked = " X " in trade.executor
-        return trade._replace(executor=trade.executor.replace(*((" X ", " ") if marked else (" ", " X "))))
+        old, new = (" X ", " ") if " X " in trade.executor else (" ", " X ")
+        return trade._replace(executor=trade.executor.replace(old, new))
     return update(base, [base.trades[ident] for ident in trade_ids], change)
 
 
 def completed_between(base, first, last, chosen):
-    trades = (trade for trade in base.trades.values() if trade.completed and first <= trade.stamp <= last and chosen(trade))
-    return oldest_first(trades)[:MOST_UPDATED]
+    """Returns the first completed trades of a span that `chosen` accepts."""
+    return oldest_first(trade for trade in base.trades.values() if trade.completed
+                        and first <= trade.stamp <= last and chosen(trade))[:MOST_UPDATED]
 
 
 def upcash(base, books, account_id, first, last):
@@ -247,7 +265,8 @@ def upcash(base, books, account_id, first, last):
     def change(trade):
         usual, other = ("Cash Account", "Cash") if trade.cash else ("Margin Account", "Margin")
         return trade._replace(settled_as=other if trade.settled_as == usual else usual)
-    return update(base, completed_between(base, first, last, lambda trade: trade.account == account_id), change)
+    trades = completed_between(base, first, last, lambda trade: trade.account == account_id)
+    return update(base, trades, change)
 
 
 def uptext(base, books, symbol, first, last):
@@ -255,8 +274,12 @@ def uptext(base, books, symbol, first, last):
 
     def change(trade):
         small, great = SHARES_WORDS
-        return trade._replace(cash_name=base.cash_name(trade, great if small in trade.cash_name else small))
-    return update(base, completed_between(base, first, last, lambda trade: trade.cash and trade.symbol == symbol), change)
+        word = great if small in trade.cash_name else small
+        return trade._replace(cash_name=base.cash_name(trade, word))
+
+    def chosen(trade):
+        return trade.cash and trade.symbol == symbol
+    return update(base, completed_between(base, first, last, chosen), change)
 
 
 def move(base, books, account_id, amount, name):
@@ -291,12 +314,12 @@ def oneday(base, books, day):
 
 
 KINDS = {kind.__name__: kind for kind in (
-    broker, customer, account, permission, security, charge, band, taxrate, custtax, order, feed, cancel, result, upname,
-    upcash, uptext, deposit, withdraw, oneday)}
+    broker, customer, account, permission, security, charge, band, taxrate, custtax, order, feed,
+    cancel, result, upname, upcash, uptext, deposit, withdraw, oneday)}
 
 
 def step(base, books, moment, command):
-    """Does a command. The reply's fields begin with its stamp."""
+    """Executes a command, and returns the fields of its reply, the stamp first."""
     act = KINDS[command.kind](base, books, *command.values)
     stamp = stamp_after(base.last_stamp, moment)
     require(stamp is not None, Refusal.ClockEnd)

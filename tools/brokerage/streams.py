@@ -35,11 +35,11 @@ NOT_IMPLEMENTED = "501 Not Implemented", "not implemented"
 
 
 class Ends(Exception):
-    """A fault of a request after which its stream ends."""
+    """A request that ends its stream: the status and the word of its reply."""
 
 
 def list_of_texts(body):
-    """The texts of a JSON list, or None."""
+    """Returns the texts of a JSON list, or None."""
     try:
         text = body.decode()
         if not TEXTS.fullmatch(text):
@@ -52,14 +52,15 @@ def list_of_texts(body):
 
 
 def read_request(data, place):
-    """Method, target, body, whether it closes the stream, and the place after it."""
+    """Returns a request's method, target and body, whether it closes its stream, and its end."""
     empty = EMPTY_LINE.search(data, place, place + MOST_HEAD)
     if not empty:
         raise Ends(*(TOO_LARGE if len(data) - place >= MOST_HEAD else BAD_REQUEST))
     head = HEAD.fullmatch(data, place, empty.end())
-    fields = [(name.lower(), value.strip(b" \t")) for name, value in FIELD.findall(head[4])] if head else []
-    if not head or len(fields) > MOST_FIELDS or not is_text(head[2]):
+    found = FIELD.findall(head[4]) if head else []
+    if not head or len(found) > MOST_FIELDS or not is_text(head[2]):
         raise Ends(*BAD_REQUEST)
+    fields = [(name.lower(), value.strip(b" \t")) for name, value in found]
     if any(name == b"transfer-encoding" for name, _ in fields):
         raise Ends(*NOT_IMPLEMENTED)
     lengths = [value for name, value in fields if name == b"content-length"]
@@ -70,7 +71,8 @@ def read_request(data, place):
     end = empty.end() + sum(map(int, lengths))
     if end > len(data):
         raise Ends(*BAD_REQUEST)
-    closes = head[3] == b"0" or any(name == b"connection" and value.lower() == b"close" for name, value in fields)
+    closes = head[3] == b"0" or any(name == b"connection" and value.lower() == b"close"
+                                    for name, value in fields)
     return head[1], head[2].decode(), data[empty.end():end], closes, end
 
 
@@ -83,19 +85,22 @@ def is_text(target):
 
 
 def route(desk, target, moment):
-    """What answers the texts of a request to this target, or None. Nothing in a target is decoded."""
-    words = target.split("/")
-    if target == "/rows":
+    """Returns the function that answers the texts of a request, or None. No escape is decoded."""
+    root, *words = target.split("/")
+    if root or not 1 <= len(words) <= 3:
+        return None
+    if words == ["rows"]:
         return lambda texts: desk.do(moment, texts)
-    if len(words) == 4 and words[:2] == ["", "rows"] and BATCH.fullmatch(words[2]) and parse_whole(words[3], MOST_ID):
-        return lambda texts: desk.do(moment, texts, (words[2], int(words[3])))
-    if len(words) == 3 and words[:2] == ["", "ask"] and words[2] in QUERIES:
-        return lambda texts: ("view", desk.ask(words[2], *texts))
+    if words[0] == "rows" and len(words) == 3:
+        if BATCH.fullmatch(words[1]) and parse_whole(words[2], MOST_ID):
+            return lambda texts: desk.do(moment, texts, (words[1], int(words[2])))
+    if words[0] == "ask" and len(words) == 2 and words[1] in QUERIES:
+        return lambda texts: ("view", desk.ask(words[1], *texts))
     return None
 
 
 def answer(desk, method, target, body, moment):
-    """The status of a request that was read, and the member of its reply."""
+    """Returns the status of a request, and the word of an error or the member of the reply."""
     act = route(desk, target, moment)
     if not act:
         return NOT_FOUND
@@ -112,14 +117,16 @@ def answer(desk, method, target, body, moment):
 
 
 def reply(status, member, closes):
-    body = json.dumps(member if isinstance(member, dict) else {"error": member}, ensure_ascii=False, separators=(",", ":")).encode()
-    lines = [f"HTTP/1.1 {status}", "Content-Type: application/json", f"Content-Length: {len(body)}"]
+    told = member if isinstance(member, dict) else {"error": member}
+    body = json.dumps(told, ensure_ascii=False, separators=(",", ":")).encode()
+    lines = [f"HTTP/1.1 {status}", "Content-Type: application/json",
+             f"Content-Length: {len(body)}"]
     lines += ["Allow: POST"] * (status == NOT_ALLOWED[0]) + ["Connection: close"] * closes
     return "".join(line + "\r\n" for line in (*lines, "")).encode() + body
 
 
 def serve(desk, data, moment):
-    """Answers the requests of a stream: the bytes written, and the number of requests answered."""
+    """Serves a stream; returns the written bytes and the number of answered requests."""
     written, place, closes = [], 0, False
     while place < len(data) and not closes:
         try:
