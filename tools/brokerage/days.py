@@ -1,6 +1,7 @@
-"""Random days as transcripts: a setting, batches of which one is sent again, a stream, queries, statements, tables and the audit.
+"""Random days as transcripts.
 
-A day of an older schema begins with the database of a desk of that schema, which is adopted."""
+A day has a setting, batches of which one is sent again, a stream, queries, statements, the tables
+and the audit. The day of an older schema begins with a database of that schema, which is adopted."""
 
 import json
 import pathlib
@@ -15,60 +16,71 @@ from .records import SCHEMA
 from .tables import tables_of
 from .transcripts import Command, Replay, input_line, input_lines
 
-REQUESTS = 6  # of a stream
 AT_THE_END = 1 / 4  # of the days reach the end of the clock
-OTHER_REQUESTS = (("/nope", "[]"), ("/rows", "{}"), ("/ask/customer", '["x"]'), ("/rows/W/0", "[]"), ("/ask/submitted", "[]"))
+REQUESTS = 6  # of a stream
+OTHER_REQUESTS = (("/nope", "[]"), ("/rows", "{}"), ("/ask/customer", '["x"]'), ("/rows/W/0", "[]"),
+                  ("/ask/submitted", "[]"))
+
+
+def literal(value):
+    """Returns a value in SQL."""
+    if value is None:
+        return "NULL"
+    return str(value) if isinstance(value, int) else "'" + value.replace("'", "''") + "'"
 
 
 class Day:
-    """The transcript of a day as it grows, and the desk that answers it."""
+    """A transcript that grows, and the desk that it is replayed on."""
 
     def __init__(self, seed, schema):
-        self.dice, self.schema, self.moment = random.Random(f"{seed} {schema}"), schema, FIRST
-        self.replay, self.lines = Replay(pathlib.Path()), []
+        self.dice, self.schema = random.Random(f"{seed} {schema}"), schema
+        self.moment, self.lines, self.replay = FIRST, [], Replay(pathlib.Path())
 
     def note(self, text):
         self.lines += ["", f"# {text}"] if self.lines else [f"# {text}"]
 
     def do(self, words, texts=()):
-        """Writes a command with its input lines and what it answers."""
-        self.lines += [words, *(f"| {text}" for text in texts)]
+        """Adds a command with its input lines and its output."""
         command = Command(0, words.split(" "), [text.encode() for text in texts], [])
+        self.lines += [words, *(f"| {text}" for text in texts)]
         self.lines += [f"> {line}" for line in self.replay.output(command)]
 
     def rows(self, schema=SCHEMA):
         return Rows(self.dice, self.replay.desk, schema)
 
-    def batch(self, name, rows):
-        """Runs a batch, whose lines end in one of three ways."""
-        ends = self.dice.choice(("\n", "\n", "\r\n", "\n\n"))
-        lines = [["batch", name], *rows, ["end", str(len(rows))]]
-        data = "".join(csv_line(row) + ends for row in lines).encode(errors="surrogateescape")
-        self.do(f"batch {self.moment}", input_lines(data))
-
-    def made(self, kinds, name, size, schema=SCHEMA):
+    def drawn(self, kinds, name, size, schema=SCHEMA):
+        """Returns the rows of a batch."""
         rows = self.rows(schema)
         return [rows.row(kinds, self.moment, (name, n)) for n in range(1, size + 1)]
 
+    def batch(self, name, rows):
+        """Adds a batch, whose lines end in one of three ways."""
+        ends = self.dice.choice(("\n", "\n", "\r\n", "\n\n"))
+        lines = [["batch", name], *rows, ["end", str(len(rows))]]
+        data = "".join(csv_line(row) + ends for row in lines).encode()
+        self.do(f"batch {self.moment}", input_lines(data))
+
     def stream(self):
-        """A stream of rows with keys and without, of queries, and of requests that are none."""
+        """Adds a stream of rows with and without a key, and of other requests."""
         rows, data = self.rows(), b""
         for n in range(1, REQUESTS + 1):
             key = self.dice.choice((("W", n), None))
             target, body = self.dice.choice(OTHER_REQUESTS)
             if n % 3:
                 target = f"/rows/W/{n}" if key else "/rows"
-                body = json.dumps(rows.row(TRADING, self.moment, key), ensure_ascii=self.dice.random() < 0.5)
+                row = rows.row(TRADING, self.moment, key)
+                body = json.dumps(row, ensure_ascii=self.dice.random() < 0.5)
             close = "Connection: close\r\n" * (n == REQUESTS)
-            data += f"POST {target} HTTP/1.1\r\n{close}Content-Length: {len(body.encode())}\r\n\r\n{body}".encode()
+            data += (f"POST {target} HTTP/1.1\r\n{close}"
+                     f"Content-Length: {len(body.encode())}\r\n\r\n{body}").encode()
         self.do(f"http {self.moment}", input_lines(data))
 
     def ask(self, view):
         rows = self.rows()
-        base = rows.base
+        customers = rows.base.customers
         arguments = {
-            "customer": lambda: [rows.known(base.customers)],
-            "taxid": lambda: [rows.known([owner.tax_id for owner in base.customers.values()])],
+            "customer": lambda: [rows.known(customers)],
+            "taxid": lambda: [rows.known([owner.tax_id for owner in customers.values()])],
             "recent": lambda: [rows.account_id()],
             "status": lambda: [rows.account_id()],
             "submitted": lambda: [],
@@ -83,48 +95,45 @@ class Day:
 
     def statement(self):
         account, first = self.rows().account_id(), day_of(FIRST) + self.dice.randint(-1, 2)
-        self.do(f"statement {account} {day_text(first)} {day_text(first + self.dice.randint(-1, 9))}")
+        last = first + self.dice.randint(-1, 9)
+        self.do(f"statement {account} {day_text(first)} {day_text(last)}")
 
     def older(self, size):
-        """The database of a desk of an older schema, which is adopted."""
-        self.replay.desk = Desk()
+        """Adds the database of a desk of an older schema, and its adoption."""
+        desk = self.replay.desk = Desk()
         for n, row in enumerate(opening_rows(self.dice, self.schema), 1):
-            self.replay.desk.do(self.moment, row, ("SET", n))
+            desk.do(self.moment, row, ("SET", n))
         for name, kinds in (("MORE", SETTING), ("OLD", TRADING)):
-            for n, row in enumerate(self.made(kinds, name, size, self.schema), 1):
-                self.replay.desk.do(self.moment, row, (name, n))
-        rows, tables = self.replay.desk.tables(self.schema), tables_of(self.schema)
-        inserts = [f"INSERT INTO {table.name} VALUES ({', '.join(map(literal, row))})" for table in tables for row in rows[table.name]]
+            for n, row in enumerate(self.drawn(kinds, name, size, self.schema), 1):
+                desk.do(self.moment, row, (name, n))
+        rows, tables = desk.tables(self.schema), tables_of(self.schema)
+        statements = [table.sql() for table in tables]
+        for table in tables:
+            statements += [f"INSERT INTO {table.name} VALUES ({', '.join(map(literal, row))})"
+                           for row in rows[table.name]]
         self.do("empty")
-        self.do("sql", [input_line(text) for text in [*(table.sql() for table in tables), *inserts]])
+        self.do("sql", [input_line(statement) for statement in statements])
         self.do("adopt")
 
 
-def literal(value):
-    """A value in SQL."""
-    if value is None:
-        return "NULL"
-    return str(value) if isinstance(value, int) else "'" + value.replace("'", "''") + "'"
-
-
 def day(seed, schema=SCHEMA, size=40):
-    """The bytes of a random day; the same words give the same day."""
+    """Returns the bytes of a random day, the same for the same arguments."""
     it = Day(seed, schema)
-    it.note(f"A random day of schema {schema}, seed {seed}, {size} rows in a batch, by tools/model --day.")
+    it.note(f"A random day of schema {schema}, seed {seed}, {size} rows in a batch.")
     if schema == SCHEMA:
         it.do("desk")
         it.batch("SET", opening_rows(it.dice, schema))
-        it.batch("MORE", it.made(SETTING, "MORE", size // 2))
+        it.batch("MORE", it.drawn(SETTING, "MORE", size // 2))
     else:
         it.older(size)
         it.do("tables")
-    it.note("Trades, a stream, and queries between.")
-    it.batch("A", it.made(TRADING, "A", size))
+    it.note("Trades, a stream, and queries.")
+    it.batch("A", it.drawn(TRADING, "A", size))
     it.stream()
     for view in it.dice.sample(list(QUERIES), 4):
         it.ask(view)
     it.moment += it.dice.choice((1, 1000, DAY, 3 * DAY))
-    rows = it.made(TRADING, "B", size)
+    rows = it.drawn(TRADING, "B", size)
     it.batch("B", rows)
     it.note("The second batch is sent again, with a row changed and a row more.")
     it.moment += it.dice.choice((0, DAY))
@@ -133,7 +142,7 @@ def day(seed, schema=SCHEMA, size=40):
     if it.dice.random() < AT_THE_END:
         it.note("The end of the clock.")
         it.moment = MOST_STAMP - it.dice.choice((3 * DAY, 2 * DAY, 5))
-        it.batch("E", it.made(TRADING, "E", size // 3))
+        it.batch("E", it.drawn(TRADING, "E", size // 3))
     it.note("Each view, statements, the tables and the audit.")
     for view in QUERIES:
         it.ask(view)

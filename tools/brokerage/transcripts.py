@@ -1,6 +1,7 @@
-"""Transcripts: read, and worked out again. crates/brk_tests_cases/README.md has their form.
+"""Transcripts, read and worked out again. crates/brk_tests_cases/README.md has their form.
 
-Where the rules are silent it decides: an unknown view, and an account or a day of a statement that has no form, are 18."""
+The rules do not say how an unknown view, and a malformed account or day of a statement, are
+refused: that page says 18."""
 
 import itertools
 import re
@@ -16,15 +17,22 @@ from .refusals import Refused
 from .tables import tables_of
 
 ESCAPE = re.compile(r"\\(\\|r|x[0-9a-fA-F]{2})".encode())
+OPEN_END = re.compile(rb"(?<!\\)(?:\\\\)*\\$")
 ESCAPED = re.compile("[\\\\\x00-\x1f\x7f\udc80-\udcff]")
 WITH_TEXTS = ("ask", "batch", "http", "print", "sql")
-# commands with which a transcript is left out, and why
-LEFT_OUT = {"$": "the program's files and exit statuses", "test": "tests in Rattle", "explain": "explanations have no rule here"}
-SURROGATES = 0xdc00  # a byte of no character is this and its value
+# the commands of transcripts that are not worked out, and why
+LEFT_OUT = {
+    "$": "the program's files and exit statuses",
+    "test": "tests in Rattle",
+    "explain": "explanations, which the rules do not know",
+}
+# what a mistake in a transcript raises here
+MISTAKES = (sqlite3.Error, OSError, ArithmeticError, AttributeError, LookupError, TypeError, ValueError)
+SURROGATES = 0xdc00  # a byte that is no UTF-8 is the character of this and its value
 
 
 class Command(NamedTuple):
-    """A command with its input and output lines, and the number of its line."""
+    """A command, with the number of its line and its input and output lines."""
     line: int
     words: List[str]
     texts: List[bytes]
@@ -32,7 +40,7 @@ class Command(NamedTuple):
 
 
 def commands_of(path):
-    """The commands of a transcript."""
+    """Returns the commands of a transcript."""
     found = []
     for number, line in enumerate(path.read_bytes().split(b"\n"), 1):
         if line.startswith(b"| "):
@@ -45,11 +53,12 @@ def commands_of(path):
 
 
 def unescaped(text):
-    """The bytes of an input line, and whether a line feed follows."""
-    open_end = re.search(rb"(?<!\\)(?:\\\\)*\\$", text) is not None
-    inner = text[:-1] if open_end else text
-    found = ESCAPE.sub(lambda escape: {b"\\": b"\\", b"r": b"\r"}.get(escape[1]) or bytes([int(escape[1][1:], 16)]), inner)
-    return found, not open_end
+    """Returns the bytes of an input line, and whether a line feed follows."""
+    open_end = OPEN_END.search(text) is not None
+
+    def meant(escape):
+        return {b"\\": b"\\", b"r": b"\r"}.get(escape[1]) or bytes([int(escape[1][1:], 16)])
+    return ESCAPE.sub(meant, text[:-1] if open_end else text), not open_end
 
 
 def block(texts):
@@ -57,36 +66,40 @@ def block(texts):
 
 
 def plain(texts):
-    """The texts of a view's arguments and of statements of SQL."""
+    """Returns the arguments of a view, or SQL statements."""
     return [unescaped(text)[0].decode(errors="surrogateescape") for text in texts]
 
 
 def escape(mark):
-    code = ord(mark[0])
-    return {"\\": "\\\\", "\r": "\\r"}.get(mark[0]) or f"\\x{code - SURROGATES if code > SURROGATES else code:02x}"
+    byte = ord(mark[0]) % SURROGATES
+    return {"\\": "\\\\", "\r": "\\r"}.get(mark[0]) or f"\\x{byte:02x}"
 
 
 def escaped(text):
-    """The text of an output line."""
+    """Returns the text of an output line."""
     return ESCAPED.sub(escape, text)
 
 
 def written(data):
-    """The output lines of written bytes."""
-    pieces = data.decode(errors="surrogateescape").split("\n")
-    return [escaped(piece) for piece in pieces[:-1]] + [escaped(pieces[-1]) + "\\"] * (pieces[-1] != "")
+    """Returns the output lines of written bytes."""
+    *lines, rest = data.decode(errors="surrogateescape").split("\n")
+    return [escaped(line) for line in lines] + [escaped(rest) + "\\"] * (rest != "")
+
+
+def lines_of(text):
+    return written(text.encode(errors="surrogateescape"))
 
 
 def input_line(text):
-    """The text of an input line: as an output line has it, but for a space at its end."""
+    """Returns the text of an input line: that of an output line, but for a space at its end."""
     line = escaped(text)
     return line[:-1] + "\\x20" if line.endswith(" ") else line
 
 
 def input_lines(data):
-    """The input lines of a block."""
-    pieces = data.decode(errors="surrogateescape").split("\n")
-    return [input_line(piece) for piece in pieces[:-1]] + [input_line(pieces[-1]) + "\\"] * (pieces[-1] != "")
+    """Returns the input lines of a block."""
+    *lines, rest = data.decode(errors="surrogateescape").split("\n")
+    return [input_line(line) for line in lines] + [input_line(rest) + "\\"] * (rest != "")
 
 
 def record(fields):
@@ -95,19 +108,19 @@ def record(fields):
 
 
 def moment_of(text):
-    """A moment as the option --at takes it; any other text counts as 0."""
+    """Returns a moment in the form of the option --at; any other text is 0."""
     return parse_whole(text, MOST_STAMP) or 0
 
 
 class Replay:
-    """A desk or a database that the commands of a transcript act on."""
+    """The desk or the database of a transcript, and its commands."""
 
     def __init__(self, folder):
         self.folder = folder
         self.desk, self.conn = None, None
 
     def database(self):
-        """The database of the open desk, which is written into it, or the one that is there."""
+        """Returns the database, into which an open desk is written."""
         if self.conn is None:
             self.conn = sqlite3.connect(":memory:", isolation_level=None)
         if self.desk:
@@ -141,17 +154,18 @@ class Replay:
         return [record(row) for row in self.desk.ask(view, *plain(texts))]
 
     def do_print(self, form, view, *, texts):
-        return written(printed(form, view, self.desk.ask(view, *plain(texts))).encode(errors="surrogateescape"))
+        return lines_of(printed(form, view, self.desk.ask(view, *plain(texts))))
 
     def do_statement(self, account, first, last):
-        return written(self.desk.statement(account, first, last).encode(errors="surrogateescape"))
+        return lines_of(self.desk.statement(account, first, last))
 
     def do_statements(self, first, last, customer=None):
-        return written(self.desk.statements(first, last, customer).encode(errors="surrogateescape"))
+        return lines_of(self.desk.statements(first, last, customer))
 
     def do_tables(self):
         rows = self.desk.tables()
-        return [f"{table.name} {record(row)}" for table in tables_of(SCHEMA) for row in rows[table.name]]
+        return [f"{table.name} {record(row)}"
+                for table in tables_of(SCHEMA) for row in rows[table.name]]
 
     def do_sql(self, *, texts):
         conn, self.desk = self.database(), None
@@ -172,7 +186,7 @@ class Replay:
             return [f"damaged {damaged.word}"]
 
     def output(self, command):
-        """The output lines of a command."""
+        """Returns the output lines of a command."""
         name, *arguments = command.words
         do = getattr(self, f"do_{name}", None)
         if do is None:
@@ -184,26 +198,27 @@ class Replay:
 
 
 def differences(path, folder):
-    """Works a transcript out again: (line, expected, worked out) of each line that differs."""
+    """Yields each output line that differs, as (line, expected, worked out)."""
     replay = Replay(folder)
     for command in commands_of(path):
         try:
             output = replay.output(command)
-        except (sqlite3.Error, OSError, ArithmeticError, AttributeError, LookupError, TypeError, ValueError) as error:
+        except MISTAKES as error:
             output = [f"! {error!r}"]
-        for place, (theirs, ours) in enumerate(itertools.zip_longest(command.output, output, fillvalue="(end)"), 1):
-            if theirs != ours:
-                yield command.line + len(command.texts) + place, theirs, ours
+        pairs = itertools.zip_longest(command.output, output, fillvalue="(end)")
+        for place, (expected, ours) in enumerate(pairs, 1):
+            if expected != ours:
+                yield command.line + len(command.texts) + place, expected, ours
 
 
 def why_left_out(path):
-    """Why a transcript is not worked out, or None."""
+    """Returns why a transcript is not worked out, or None."""
     names = {command.words[0] for command in commands_of(path)}
     return next((why for name, why in LEFT_OUT.items() if name in names), None)
 
 
 def check(paths, folder):
-    """Works transcripts out again and prints what differs: the numbers of those that passed and that failed."""
+    """Works transcripts out again and prints what differs; returns how many passed and failed."""
     passed, failed, left_out = 0, 0, {}
     for path in paths:
         why = why_left_out(path)
@@ -211,9 +226,11 @@ def check(paths, folder):
             left_out.setdefault(why, []).append(path.stem)
             continue
         differs = False
-        for line, theirs, ours in differences(path, folder):
-            print(f"{path.name}:{line}: expected {theirs}\n{path.name}:{line}: worked out {ours}", flush=True)
+        for line, expected, ours in differences(path, folder):
+            print(f"{path.name}:{line}: expected {expected}")
+            print(f"{path.name}:{line}: worked out {ours}", flush=True)
             differs = True
         passed, failed = passed + (not differs), failed + differs
-    print("not worked out: " + ("; ".join(f"{' '.join(names)} ({why})" for why, names in left_out.items()) or "none"))
+    parts = [f"{' '.join(names)} ({why})" for why, names in left_out.items()]
+    print(f"not worked out: {'; '.join(parts) or 'none'}")
     return passed, failed
