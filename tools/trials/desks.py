@@ -5,9 +5,10 @@ import subprocess
 import tempfile
 import time
 
-from cases import MOMENT, SETTING, batch_of
+from cases import MOMENT, SETTING
 
 CUSTOMER, ACCOUNT, SYMBOLS = 10, 100, 20
+MOST_LINE = 4096
 
 
 def symbol_of(n):
@@ -41,32 +42,40 @@ def setting(accounts):
 
 
 def day(count, accounts):
-    """So many orders, a third of which sell, each with its result after it."""
-    rows = []
+    """Yields so many orders, a third of which sell, each with its result after it."""
     for n in range(1, count + 1):
         price = 900 + n * 7 % 300
-        fields = order(n, "TMS" if n % 3 == 0 else "TMB", n % 500 + 1, accounts)
-        rows += [",".join(map(str, fields)), f"result,{n},{price // 100}.{price % 100:02}"]
-    return rows
+        yield ",".join(map(str, order(n, "TMS" if n % 3 == 0 else "TMB", n % 500 + 1, accounts)))
+        yield f"result,{n},{price // 100}.{price % 100:02}"
 
 
-def timed(words, rows=b""):
-    """Runs a program on rows: its status, its last line, and what it took."""
+def lines_of(name, rows):
+    """Yields the lines of a batch."""
+    count = 0
+    yield f"batch,{name}\n"
+    for count, row in enumerate(rows, 1):
+        yield f"{row}\n"
+    yield f"end,{count}\n"
+
+
+def timed(words, lines=()):
+    """Runs a program on lines: its status, its last line, and what it took. Linux counts the memory of the process that starts a program as the
+    program's, so this process holds neither the lines nor the output."""
     with tempfile.TemporaryFile() as put, tempfile.TemporaryFile() as got:
-        put.write(rows)
+        put.writelines(line.encode() for line in lines)
         put.seek(0)
         began = time.monotonic()
         process = subprocess.Popen(words, stdin=put, stdout=got)
         _, status, used = os.wait4(process.pid, 0)
         process.returncode = os.waitstatus_to_exitcode(status)
         took = time.monotonic() - began
-        got.seek(0)
-        lines = got.read().decode().splitlines()
+        got.seek(max(0, os.fstat(got.fileno()).st_size - MOST_LINE))
+        last = got.read().decode(errors="replace").splitlines()[-1:]
     cost = f"{took:.2f} s by the clock, {used.ru_utime + used.ru_stime:.2f} s of a processor, {used.ru_maxrss / 1024:.0f} MB"
-    return process.returncode, lines[-1] if lines else "", cost
+    return process.returncode, "".join(last), cost
 
 
 def made(brk, path, count, accounts=1):
-    """Books a setting and then so many trades on a new file: what each batch came to."""
-    batches = (("SET", setting(accounts)), ("DAY", day(count, accounts)))
-    return [(len(rows), *timed([brk, "batch", "--db", path, "--at", MOMENT], batch_of(name, rows))) for name, rows in batches]
+    """Books a setting and then so many trades on a new file: what came of the two batches."""
+    words = [brk, "batch", "--db", path, "--at", MOMENT]
+    return [timed(words, lines_of(name, rows)) for name, rows in (("SET", setting(accounts)), ("DAY", day(count, accounts)))]
