@@ -3,11 +3,11 @@
 //! lines.
 
 use crate::files::execute_file_command;
+use crate::lines::{Piece, append_escaped_output_lines, append_output_line};
 use crate::records::{
     append_refusal_line, append_report, append_rows_of_all_tables, execute_ask_command,
     execute_print_command,
 };
-use crate::replay::{Piece, append_escaped_output_lines, append_output_line};
 use crate::tests::{NamedTests, execute_test_command};
 use brk_desk::Desk;
 use brk_explain::{ExplainRequest, parse_explain, write_explanation};

@@ -2,7 +2,7 @@
 //! another program makes in a file. A function that fails may have appended a part of its lines. A
 //! change that fails may have changed a part of its file.
 
-use crate::replay::{append_escaped_lines_with_prefix, append_output_line};
+use crate::lines::{append_escaped_lines_with_prefix, append_output_line};
 use brk_cli_args::read_words;
 use brk_cli_exit::end_with;
 use brk_cli_jobs::{PipeWriter, execute_requested_job_on_machine};

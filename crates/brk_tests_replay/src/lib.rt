@@ -7,6 +7,7 @@ mod commands;
 mod comparison;
 mod files;
 mod folders;
+mod lines;
 mod listing;
 mod records;
 mod replay;

@@ -1,7 +1,7 @@
 //! The records that transcripts show: those of views and the rows of all tables. A function that
 //! fails may have appended a part of its lines.
 
-use crate::replay::{Piece, append_escaped_bytes, append_escaped_output_lines, append_output_line};
+use crate::lines::{Piece, append_escaped_bytes, append_escaped_output_lines, append_output_line};
 use crate::table_list::TABLES;
 use brk_ask::{Form, write_asked};
 use brk_desk::{Desk, parse_query};

@@ -1,6 +1,6 @@
 //! The command `test`, which runs a test that no transcript can state.
 
-use crate::replay::append_output_line;
+use crate::lines::append_output_line;
 use std::alloc::AllocError;
 use std::process::Termination;
 use std::test::Fail;
