@@ -9,6 +9,7 @@
 mod calls;
 mod cuts;
 mod http;
+mod long_run;
 mod made;
 mod rows_read;
 mod statements;
@@ -34,6 +35,11 @@ pub fn run_test(alloc: Global, name: &str) -> Option<Result<(), Fail>> {
             http::peers::peers_in_memory_receive_their_replies(alloc),
         "streams_in_pieces_get_the_same_replies" =>
             http::streams::streams_in_pieces_get_the_same_replies(alloc),
+        "a_stream_has_at_most_1_000_requests" => http::streams::a_stream_has_at_most_1_000_requests(
+            alloc,
+        ),
+        "a_long_run_answers_as_the_batch_of_its_rows" =>
+            long_run::a_long_run_answers_as_the_batch_of_its_rows(alloc),
         "a_head_has_at_most_16_384_bytes" => http::streams::a_head_has_at_most_16_384_bytes(alloc),
         "a_second_creation_fails" => made::a_second_creation_fails(alloc),
         "creation_preserves_other_tables" => made::creation_preserves_other_tables(alloc),

@@ -217,9 +217,9 @@ pub fn run_batch_at_desk<S: Alter>(
     (lines, ended)
 }
 
-// Checks that the bytes `told` that a batch wrote are exactly the lines `wanted` (`expect_lines`).
-// Fails without `case` if the bytes are not UTF-8.
-fn expect_batch_lines(case: Case<'_>, told: &[u8], wanted: &str) -> Result<(), Fail> {
+/// Checks that the bytes `told` that a batch wrote are exactly the lines `wanted`. Fails with `case`
+/// and the number of the first line that differs, or without `case` if the bytes are not UTF-8.
+pub fn expect_batch_lines(case: Case<'_>, told: &[u8], wanted: &str) -> Result<(), Fail> {
     match str::from_utf8(told) {
         Ok(told) => expect_lines(case, "lines", told, wanted),
         Err(_) => Err("no text")?,

@@ -5,7 +5,7 @@
 use crate::files::execute_file_command;
 use crate::lines::{Piece, append_escaped_output_lines, append_output_line};
 use crate::records::{
-    append_refusal_line, append_report, append_rows_of_all_tables, execute_ask_command,
+    append_refusal_line, append_report, append_rows_of_tables, execute_ask_command,
     execute_print_command,
 };
 use crate::tests::{NamedTests, execute_test_command};
@@ -356,18 +356,18 @@ fn execute_sql_command(
     }
 }
 
-// Appends the rows of all tables of a desk in the open database, or in that of the open desk, as
-// output lines (`append_rows_of_all_tables`). Then adopts the database, which upgrades an older
-// schema, without appending the result. If nothing is open, appends nothing. Fails only if memory
-// runs out.
+// Appends the rows of the tables that `names` names, or of all tables, as output lines
+// (`append_rows_of_tables`). Then adopts the database, which upgrades an older schema, without
+// appending the result. If nothing is open, appends nothing.
 fn execute_tables_command(
     alloc: Global,
     out: &mut String,
     place: &mut Place,
+    names: &str,
 ) -> Result<(), AllocError> {
     place.close_desk();
     if let Place::Database(conn) = place {
-        append_rows_of_all_tables(out, conn)?;
+        append_rows_of_tables(out, conn, names)?;
     }
     place.adopt(alloc);
     Ok(())
@@ -435,7 +435,7 @@ fn execute_desk_or_database_command(
         "desk" => *place = Place::with_new_desk(alloc),
         "empty" => *place = Place::with_empty_database(alloc),
         "sql" => return execute_sql_command(out, place, pieces),
-        "tables" => return execute_tables_command(alloc, out, place),
+        "tables" => return execute_tables_command(alloc, out, place, words),
         "audit" => return append_audit_result(out, audit_place(alloc, place)),
         "adopt" => return append_audit_result(out, place.adopt(alloc)),
         _ => return execute_command_of_open_desk(alloc, out, place, verb, words, pieces),

@@ -7,8 +7,7 @@ use brk_ask::{Form, write_asked};
 use brk_desk::{Desk, parse_query};
 use brk_money::{Planned, Refusal};
 use brk_report::ReportFault;
-use brk_view::view_fields;
-use brk_view_rows::View;
+use brk_view::{View, view_fields};
 use sqlite::types::ValueRef;
 use sqlite::{Connection, MemStore, Row};
 use std::alloc::{AllocError, Global};
@@ -187,15 +186,22 @@ fn append_rows_of_table(
     }
 }
 
-/// Appends the rows of all tables of a desk as output lines: the tables in the order of `TABLES`,
-/// and each sorted by its key, ascending. For a table that cannot be read, appends the line
-/// `! no table` with its name in place of its rows. Fails only if memory runs out.
-pub fn append_rows_of_all_tables(
+fn is_shown(table: &str, names: &str) -> bool {
+    names.is_empty() || names.split(' ').any(|name| name == table)
+}
+
+/// Appends the rows of the tables of a desk that the words `names` name, or of all tables if there is
+/// none, as output lines: the tables in the order of `TABLES`, and each sorted by its key, ascending.
+/// For a table that cannot be read, appends the line `! no table` with its name.
+pub fn append_rows_of_tables(
     out: &mut String,
     conn: &mut Connection<MemStore>,
+    names: &str,
 ) -> Result<(), AllocError> {
     for (table, sql) in &TABLES {
-        append_rows_of_table(out, conn, table, sql)?;
+        if is_shown(table, names) {
+            append_rows_of_table(out, conn, table, sql)?;
+        }
     }
     Ok(())
 }

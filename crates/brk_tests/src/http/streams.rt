@@ -149,3 +149,37 @@ pub fn a_head_has_at_most_16_384_bytes(alloc: Global) -> Result<(), Fail> {
     }
     Ok(())
 }
+
+const REQUEST: &str = "POST /ask/submitted HTTP/1.1\r\nContent-Length: 2\r\n\r\n[]";
+
+fn repeat_request(alloc: Global, count: u64) -> Result<String, AllocError> {
+    let mut input = String::new(alloc);
+    for _ in 0..count {
+        input.push_str(REQUEST)?;
+    }
+    Ok(input)
+}
+
+// Returns the replies to the most requests that a stream has: the last one ends it.
+fn replies_to_thousand_requests(alloc: Global) -> Result<Vec<&'static str>, AllocError> {
+    let mut replies = Vec::new(alloc);
+    for _ in 0..999u64 {
+        replies.push(EMPTY)?;
+    }
+    replies.push(SAID)?;
+    Ok(replies)
+}
+
+/// Checks that the reply to the thousandth request of a stream ends it, and that the request after
+/// it has no reply.
+pub fn a_stream_has_at_most_1_000_requests(alloc: Global) -> Result<(), Fail> {
+    let input = repeat_request(alloc, 1_001)?;
+    let wanted = replies_to_thousand_requests(alloc)?;
+    expect_replies_in_pieces(
+        alloc,
+        open_in_memory(alloc),
+        input.as_bytes(),
+        &wanted,
+        4096,
+    )
+}
