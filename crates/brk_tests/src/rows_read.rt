@@ -7,7 +7,7 @@ use brk_store::{LotPages, Store};
 use brk_tests_desks::desks::{buy_for_new_account, desk_with_reference_data, open_in_memory};
 use brk_tests_desks::worked::FIRST_MOMENT;
 use brk_tests_unit::expect::expect;
-use brk_trade_rows::Change;
+use brk_trade::Change;
 use sqlite::{Alter, Connection};
 use std::alloc::Global;
 use std::test::Fail;
