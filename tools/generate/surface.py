@@ -6,7 +6,7 @@ fields and variants of the types.
 
 `faults` says what is wrong: the list is not as written here; no transcript or test reaches an item; nothing calls a function of a crate of tests;
 such a crate imports an item from a part of the crate that exports it. Calls are followed by their names, from `main` of brk_tests_cases on, which
-runs all transcripts and tests; a method in an `impl` of a trait is taken for called."""
+runs all transcripts and tests; a method in an `impl` of a trait is taken for called, and what a macro calls."""
 import pathlib
 import re
 import sys
@@ -22,6 +22,7 @@ PROGRAM = 'brk_tests_cases'
 NO_CODE = re.compile(r'//[^\n]*|"(?:\\.|[^"\\])*"' r"|b?'(?:\\.|[^'\\])'", re.S)
 USE = re.compile(r'^ *(pub )?(?:pub\(crate\) )?use ([^;]+);', re.M)
 FUNCTION = re.compile(r'^( *)(?:pub(?:\(crate\))? )?(?:final |const )*fn (\w+)')
+MACRO = re.compile(r'^macro_rules! .*?^\}', re.M | re.S)
 TRAIT_METHODS = re.compile(r'^(?:unsafe )?impl\b[^{]* for [^{]*\{.*?^\}', re.M | re.S)
 
 
@@ -82,7 +83,9 @@ class Source:
         self.code = USE.sub(' ', code)
         self.words = Words(self.code)
         self.functions = [(name, Words(text)) for name, text in functions(self.code)]
-        self.called_by_bounds = {name for block in TRAIT_METHODS.findall(self.code) for name, _ in functions(block)}
+        # called through a bound, or where a macro is
+        self.implied = {name for block in TRAIT_METHODS.findall(self.code) for name, _ in functions(block)}
+        self.implied.update(word for macro in MACRO.findall(self.code) for word in Words(macro).called)
 
 
 class Tree:
@@ -112,9 +115,9 @@ class Tree:
         found, ahead = {}, [(PROGRAM, 'main')]
         for crate in self.known:
             for source in self.sources[crate].values():
-                ahead += [(crate, name) for name in source.called_by_bounds]
                 for name, words in source.functions:
                     self.known[crate].setdefault(name, []).append(words)
+                ahead += [(crate, name) for name in source.implied if name in self.known[crate]]
         below = {crate: self.below(crate) for crate in self.known}
         while ahead:
             crate, name = ahead.pop()

@@ -12,6 +12,8 @@ use brk_ref::{BatchName, RowNumber};
 use brk_tests_desks::desks::{Still, desk_with_reference_data, open_in_memory};
 use brk_tests_surface_rules::view::format_records;
 use brk_tests_unit::expect::{expect, expect_text};
+use brk_tests_unit::results::Results;
+use brk_tests_unit::run_test;
 use sqlite::{Alter, Connection};
 use std::alloc::{AllocError, Global};
 use std::test::Fail;
@@ -188,11 +190,10 @@ fn expect_outcomes_of_run<S: Alter + Drop>(
     expect_outcomes(alloc, &out, OUTCOMES)
 }
 
-/// Checks that a run has an outcome for each of its calls: it executes the commands after a refused
-/// one, repeats the stored reply to a row under its key, refuses another row under this key and the
-/// same row under another one, and answers queries, of which it refuses one. Fails also if the desk
-/// cannot be set up, or if memory runs out.
-pub fn a_run_has_an_outcome_for_each_call(alloc: Global) -> Result<(), Fail> {
+// Checks that a run has an outcome for each of its calls: it executes the commands after a refused
+// one, repeats the stored reply to a row under its key, refuses another row under this key and the
+// same row under another one, and answers queries, of which it refuses one.
+fn a_run_has_an_outcome_for_each_call(alloc: Global) -> Result<(), Fail> {
     let calls = calls_of_run(alloc)?;
     expect_outcomes_of_run(alloc, open_in_memory(alloc), &calls)
 }
@@ -290,9 +291,15 @@ fn expect_calls_after_trades<S: Alter + Drop>(
     expect_head(alloc, &mut desk)
 }
 
-/// Checks public names of brk_desk: commands under keys, a query, and the head of a statement.
-/// Fails if an answer differs, and if memory runs out.
-pub fn surface_of_brk_desk(alloc: Global) -> Result<(), Fail> {
+// Checks public names of brk_desk: commands under keys, a query, and the head of a statement.
+fn surface_of_brk_desk(alloc: Global) -> Result<(), Fail> {
     expect_text_of_row(alloc)?;
     expect_calls_after_trades(alloc, open_in_memory(alloc))
+}
+
+/// Runs the tests of this module.
+pub fn run_tests(rt: &HostRuntime, results: &mut Results) {
+    let alloc = rt.alloc();
+    run_test!(rt, results, a_run_has_an_outcome_for_each_call(alloc));
+    run_test!(rt, results, surface_of_brk_desk(alloc));
 }

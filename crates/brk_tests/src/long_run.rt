@@ -6,6 +6,8 @@ use brk_money::Stamp;
 use brk_tests_desks::desks::{
     Case, desk_with_reference_data, expect_batch_lines, open_in_memory, run_batch_at_desk,
 };
+use brk_tests_unit::results::Results;
+use brk_tests_unit::run_test;
 use sqlite::{Alter, Connection};
 use std::alloc::{AllocError, Global};
 use std::test::Fail;
@@ -82,9 +84,9 @@ fn lines_of_run(alloc: Global, rows: &str) -> Result<String, Fail> {
     lines_of_outcomes(alloc, &outcomes)
 }
 
-/// Checks that a run of a thousand calls answers each as a batch of the same rows does on another
-/// desk, and that all are accepted.
-pub fn a_long_run_answers_as_the_batch_of_its_rows(alloc: Global) -> Result<(), Fail> {
+// Checks that a run of a thousand calls answers each as a batch of the same rows does on another
+// desk, and that all are accepted.
+fn a_long_run_answers_as_the_batch_of_its_rows(alloc: Global) -> Result<(), Fail> {
     let rows = format_rows(alloc)?;
     let wanted = lines_of_run(alloc, rows.as_str())?;
     let told = lines_of_batch(alloc, open_in_memory(alloc), rows.as_str())?;
@@ -93,4 +95,14 @@ pub fn a_long_run_answers_as_the_batch_of_its_rows(alloc: Global) -> Result<(), 
         at: 0,
     };
     expect_batch_lines(case, &told, wanted.as_str())
+}
+
+/// Runs the tests of this module.
+pub fn run_tests(rt: &HostRuntime, results: &mut Results) {
+    let alloc = rt.alloc();
+    run_test!(
+        rt,
+        results,
+        a_long_run_answers_as_the_batch_of_its_rows(alloc)
+    );
 }

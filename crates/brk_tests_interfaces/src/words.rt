@@ -1,6 +1,8 @@
 use brk_cli_args::{Job, UsageFault, read_words};
 use brk_money::{Id, Stamp};
 use brk_tests_unit::expect::expect;
+use brk_tests_unit::results::Results;
+use brk_tests_unit::run_test;
 use std::alloc::{AllocError, Global};
 use std::test::Fail;
 
@@ -25,8 +27,7 @@ fn number_or_zero(id: Option<Id>) -> u64 {
     }
 }
 
-// Appends a space and a word to the text, for each word, and returns the text. Fails only if memory
-// runs out.
+// Appends a space and a word to the text, for each word, and returns the text.
 fn append_words(mut text: String, words: &[String]) -> Result<String, AllocError> {
     for word in words {
         text.push_str(" ")?;
@@ -37,9 +38,8 @@ fn append_words(mut text: String, words: &[String]) -> Result<String, AllocError
 
 // Returns the name of a job and its values, in the order of its fields, as text, separated by
 // spaces: a path, or `-` if it is optional and there is none; timestamps in milliseconds since
-// 1970-01-01 UTC, or -1 if there is none; days as numbers of days since 1970-01-01; a customer by its
-// id, or 0 if there is none; flags as `true` or `false`; other numbers and words as they are. Fails
-// only if memory runs out.
+// 1970-01-01 UTC, or -1 if there is none; days as numbers of days since 1970-01-01; a customer by
+// its id, or 0 if there is none; flags as `true` or `false`; other numbers and words as they are.
 fn format_job(alloc: Global, job: &Job) -> Result<String, AllocError> {
     match job {
         Job::Batch { db, at } => format!(in alloc;
@@ -93,7 +93,7 @@ fn format_job(alloc: Global, job: &Job) -> Result<String, AllocError> {
 }
 
 /// Returns the words of a command line, which are separated by `|`: the name of the program and its
-/// arguments. Fails only if memory runs out.
+/// arguments.
 pub fn words_of_command_line(alloc: Global, line: &str) -> Result<Vec<String>, AllocError> {
     let mut all = Vec::new(alloc);
     for word in line.split('|') {
@@ -103,8 +103,7 @@ pub fn words_of_command_line(alloc: Global, line: &str) -> Result<Vec<String>, A
 }
 
 // Returns the text of a parsed job, or `wrong:` with the error text, `help:` with the help or
-// version text, `day` for a malformed day, or `memory` if memory ran out. Fails only if memory runs
-// out.
+// version text, `day` for a malformed day, or `memory` if memory ran out.
 fn format_parsed_job(alloc: Global, read: &Result<Job, UsageFault>) -> Result<String, AllocError> {
     match read {
         Ok(job) => format_job(alloc, job),
@@ -116,7 +115,7 @@ fn format_parsed_job(alloc: Global, read: &Result<Job, UsageFault>) -> Result<St
 }
 
 // Parses the words of a command line, and returns the text of the job or of the fault
-// (`format_parsed_job`). Fails only if memory runs out.
+// (`format_parsed_job`).
 fn parse_words_and_format_job(alloc: Global, words: Vec<String>) -> Result<String, AllocError> {
     format_parsed_job(alloc, &read_words(words))
 }
@@ -146,8 +145,7 @@ fn text_after_colon(text: &str) -> &str {
 }
 
 // Checks that a command line, its words separated by `|`, is parsed to the job whose text consists
-// of the parts `wanted`, or is reported with this text (`format_parsed_job`). Fails with the text
-// if not. Fails also if memory runs out.
+// of the parts `wanted`, or is reported with this text (`format_parsed_job`).
 fn expect_parsed_command_line(alloc: Global, line: &str, wanted: &[&str]) -> Result<(), Fail> {
     let words = words_of_command_line(alloc, line)?;
     let told = parse_words_and_format_job(alloc, words)?;
@@ -221,10 +219,9 @@ const JOBS: [(&str, &str); 21] = [
     ),
 ];
 
-/// Checks, for the command lines of `JOBS`, that the correct ones, at least one for each job,
-/// request the wanted jobs, and that a malformed first or last day of a statement is reported.
-/// Fails if not, and if memory runs out.
-pub fn parses_the_arguments_of_each_job(alloc: Global) -> Result<(), Fail> {
+// Checks, for the command lines of `JOBS`, that the correct ones, at least one for each job,
+// request the wanted jobs, and that a malformed first or last day of a statement is reported.
+fn parses_the_arguments_of_each_job(alloc: Global) -> Result<(), Fail> {
     for (line, job) in &JOBS {
         expect_parsed_command_line(alloc, line, &[*job])?;
     }
@@ -235,9 +232,9 @@ pub fn parses_the_arguments_of_each_job(alloc: Global) -> Result<(), Fail> {
 const EMPTY_STAMP: &str = "wrong: error: invalid value '' for '--at <MS>': \
     cannot parse integer from empty string\n\nFor more information, try '--help'.\n";
 
-/// Checks that an empty list of arguments is reported as wrong with the help of the program as the
-/// error text, and an empty value with the wanted error text. Fails if not, and if memory runs out.
-pub fn reports_empty_arguments(alloc: Global) -> Result<(), Fail> {
+// Checks that an empty list of arguments is reported as wrong with the help of the program as the
+// error text, and an empty value with the wanted error text.
+fn reports_empty_arguments(alloc: Global) -> Result<(), Fail> {
     let help = parse_words_and_format_job(alloc, words_of_command_line(alloc, "brk|help")?)?;
     let wrong = parse_words_and_format_job(alloc, words_of_command_line(alloc, "brk")?)?;
     expect_parts(help.as_str(), &["help: ", text_after_colon(wrong.as_str())])?;
@@ -246,4 +243,11 @@ pub fn reports_empty_arguments(alloc: Global) -> Result<(), Fail> {
         &["wrong: ", text_after_colon(help.as_str())],
     )?;
     expect_parsed_command_line(alloc, "brk|serve|--port|1|--at|", &[EMPTY_STAMP])
+}
+
+/// Runs the tests of this module.
+pub fn run_tests(rt: &HostRuntime, results: &mut Results) {
+    let alloc = rt.alloc();
+    run_test!(rt, results, parses_the_arguments_of_each_job(alloc));
+    run_test!(rt, results, reports_empty_arguments(alloc));
 }

@@ -15,4 +15,4 @@ mod table_list;
 mod tests;
 
 pub use folders::{ReplayFault, replay_all_folders};
-pub use tests::NamedTests;
+pub use tests::TestCrates;

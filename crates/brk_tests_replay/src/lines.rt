@@ -38,7 +38,7 @@ fn value_of_hex_digit(byte: u8) -> u8 {
 // Unescapes the byte `byte` of an input line (`unescape_input_line`); `read` is the part of an
 // escape that was read before it. Appends the unescaped byte that `byte` completes, if any, and
 // returns the part of an escape that is read after it. After `\x`, a byte that is no hexadecimal
-// digit has the value 0. Fails only if memory runs out.
+// digit has the value 0.
 fn unescape_byte(bytes: &mut Vec<u8>, read: Escape, byte: u8) -> Result<Escape, AllocError> {
     match (read, byte) {
         (Escape::Nothing, b'\\') => return Ok(Escape::Backslash),
@@ -55,7 +55,7 @@ fn unescape_byte(bytes: &mut Vec<u8>, read: Escape, byte: u8) -> Result<Escape, 
 /// hexadecimal digits the byte with this value, and a backslash before any other byte only this
 /// byte. In the place of a hexadecimal digit, a byte that is none counts as 0. Returns also whether
 /// a line feed follows: a single backslash at the end of the line means that none does. An escape
-/// `\x` without both digits at the end of the line is dropped. Fails only if memory runs out.
+/// `\x` without both digits at the end of the line is dropped.
 pub fn unescape_input_line(alloc: Global, text: &str) -> Result<Piece, AllocError> {
     let mut bytes = Vec::new(alloc);
     let mut read = Escape::Nothing;
@@ -70,7 +70,7 @@ pub fn unescape_input_line(alloc: Global, text: &str) -> Result<Piece, AllocErro
 
 // Appends a character with the escapes of an output line: a backslash as `\\`, a carriage return as
 // `\r`, and each other character below 20 (hexadecimal), the character 7f, and a bar if `in_record`
-// is true, as `\x` with two lower-case hexadecimal digits. Fails only if memory runs out.
+// is true, as `\x` with two lower-case hexadecimal digits.
 fn append_escaped_char(out: &mut String, c: char, in_record: bool) -> Result<(), AllocError> {
     match c {
         '\\' => out.push_str("\\\\"),
@@ -81,7 +81,7 @@ fn append_escaped_char(out: &mut String, c: char, in_record: bool) -> Result<(),
     }
 }
 
-// Appends each character of a text (`append_escaped_char`). Fails only if memory runs out.
+// Appends each character of a text (`append_escaped_char`).
 fn append_escaped_text(out: &mut String, text: &str, in_record: bool) -> Result<(), AllocError> {
     for c in text.chars() {
         append_escaped_char(out, c, in_record)?;
@@ -92,7 +92,7 @@ fn append_escaped_text(out: &mut String, text: &str, in_record: bool) -> Result<
 /// Appends bytes with the escapes of an output line: a backslash as `\\`, a carriage return as
 /// `\r`, and each other byte below 20 (hexadecimal), the byte 7f, each byte that is no part of a
 /// UTF-8 character, and a bar if `in_record` is true, as `\x` with two lower-case hexadecimal
-/// digits. Fails only if memory runs out.
+/// digits.
 pub fn append_escaped_bytes(
     out: &mut String,
     bytes: &[u8],
@@ -108,7 +108,7 @@ pub fn append_escaped_bytes(
 }
 
 // Appends a written line as an output line with escapes after the mark `mark`. A line without a
-// line feed ends in a single backslash. Fails only if memory runs out.
+// line feed ends in a single backslash.
 fn append_escaped_line(out: &mut String, mark: &str, written: &[u8]) -> Result<(), AllocError> {
     let (line, end) = match written.strip_suffix(b"\n") {
         Some(line) => (line, "\n"),
@@ -121,8 +121,7 @@ fn append_escaped_line(out: &mut String, mark: &str, written: &[u8]) -> Result<(
 
 /// Appends written bytes as output lines with escapes, each after the mark `mark`. The bytes are
 /// cut after each line feed, and each piece becomes one line; a last piece without a line feed
-/// becomes a line that ends in a single backslash. Without bytes, appends nothing. Fails only if
-/// memory runs out.
+/// becomes a line that ends in a single backslash. Without bytes, appends nothing.
 pub fn append_escaped_lines_with_prefix(
     out: &mut String,
     mark: &str,
@@ -135,13 +134,13 @@ pub fn append_escaped_lines_with_prefix(
 }
 
 /// Appends written bytes as output lines with escapes, as `append_escaped_lines_with_prefix` does
-/// after `>` and a space. Fails only if memory runs out.
+/// after `>` and a space.
 pub fn append_escaped_output_lines(out: &mut String, bytes: &[u8]) -> Result<(), AllocError> {
     append_escaped_lines_with_prefix(out, "> ", bytes)
 }
 
 /// Appends the text `line`, without escapes, as an output line: after `>` and a space, and before a
-/// line feed. Fails only if memory runs out.
+/// line feed.
 pub fn append_output_line(out: &mut String, line: &str) -> Result<(), AllocError> {
     writeln!(out, "> {line}")
 }

@@ -2,7 +2,7 @@
 
 use crate::commands::{Place, execute_command};
 use crate::lines::{Piece, append_output_line, unescape_input_line};
-use crate::tests::NamedTests;
+use crate::tests::TestCrates;
 use std::alloc::{AllocError, Global};
 use std::fs;
 
@@ -46,7 +46,7 @@ impl<'a> Pending<'a> {
         }
     }
 
-    fn execute<T: NamedTests>(
+    fn execute<T: TestCrates>(
         &self,
         rt: &HostRuntime,
         tests: &T,
@@ -73,7 +73,7 @@ struct Included<'a> {
 }
 
 impl<'a> Included<'a> {
-    fn process_line<T: NamedTests>(
+    fn process_line<T: TestCrates>(
         &mut self,
         rt: &HostRuntime,
         tests: &T,
@@ -88,7 +88,7 @@ impl<'a> Included<'a> {
         Ok(())
     }
 
-    fn process_lines<T: NamedTests>(
+    fn process_lines<T: TestCrates>(
         &mut self,
         rt: &HostRuntime,
         tests: &T,
@@ -102,7 +102,7 @@ impl<'a> Included<'a> {
     }
 }
 
-fn execute_included_transcript<T: NamedTests>(
+fn execute_included_transcript<T: TestCrates>(
     rt: &HostRuntime,
     tests: &T,
     place: &mut Place,
@@ -116,7 +116,7 @@ fn execute_included_transcript<T: NamedTests>(
 }
 
 // Executes the commands of the transcript at a path, or appends `! no file` if it cannot be read.
-fn execute_include_command<T: NamedTests>(
+fn execute_include_command<T: TestCrates>(
     rt: &HostRuntime,
     tests: &T,
     out: &mut String,
@@ -137,7 +137,7 @@ struct Replay<'a> {
 }
 
 impl<'a> Replay<'a> {
-    fn execute_pending_command<T: NamedTests>(
+    fn execute_pending_command<T: TestCrates>(
         &mut self,
         rt: &HostRuntime,
         tests: &T,
@@ -151,7 +151,7 @@ impl<'a> Replay<'a> {
 
     // Drops an output line, copies any other one, and executes the pending command before a line that
     // is no input line.
-    fn process_line<T: NamedTests>(
+    fn process_line<T: TestCrates>(
         &mut self,
         rt: &HostRuntime,
         tests: &T,
@@ -168,7 +168,7 @@ impl<'a> Replay<'a> {
         writeln!(out, "{line}")
     }
 
-    fn process_lines<T: NamedTests>(
+    fn process_lines<T: TestCrates>(
         &mut self,
         rt: &HostRuntime,
         tests: &T,
@@ -183,9 +183,9 @@ impl<'a> Replay<'a> {
 }
 
 /// Executes the commands of a transcript, and returns the transcript with their new output lines in
-/// place of the old ones. The command `test` runs one of `tests`. A line feed that is missing at
+/// place of the old ones. The command `tests` runs those of `tests`. A line feed that is missing at
 /// the end of the transcript is added.
-pub fn replay_transcript<T: NamedTests>(
+pub fn replay_transcript<T: TestCrates>(
     rt: &HostRuntime,
     tests: &T,
     text: &str,

@@ -7,6 +7,8 @@ use brk_ref::{
     overlaps, permitted, tax_sum,
 };
 use brk_tests_unit::expect::{expect_equal, expect_text};
+use brk_tests_unit::results::Results;
+use brk_tests_unit::run_test;
 use brk_tests_unit::texts::parse_text;
 use std::alloc::Global;
 use std::slice;
@@ -202,14 +204,19 @@ fn expect_parsed_records(alloc: Global) -> Result<(), Fail> {
     expect_customer_tax()
 }
 
-/// Checks public names of brk_ref: the records and the parsers of their fields, which executor is
-/// permitted, the rate of a quantity, bands that overlap, and the sum of tax rates. Fails if an
-/// answer differs, and if memory runs out.
-pub fn surface_of_brk_ref(alloc: Global) -> Result<(), Fail> {
+// Checks public names of brk_ref: the records and the parsers of their fields, which executor is
+// permitted, the rate of a quantity, bands that overlap, and the sum of tax rates.
+fn surface_of_brk_ref(alloc: Global) -> Result<(), Fail> {
     expect_parsed_records(alloc)?;
     expect_bands(alloc)?;
     expect_tax_sums(alloc)?;
     expect_permitted_executors(alloc)?;
     expect_kept_reply(alloc)?;
     expect_old_cash_row(alloc)
+}
+
+/// Runs the tests of this module.
+pub fn run_tests(rt: &HostRuntime, results: &mut Results) {
+    let alloc = rt.alloc();
+    run_test!(rt, results, surface_of_brk_ref(alloc));
 }

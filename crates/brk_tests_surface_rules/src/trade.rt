@@ -10,6 +10,8 @@ use brk_tests_unit::plans::{PURCHASE, purchase_facts};
 use brk_tests_unit::result_plans::{
     REPLY_TO_RESULT, SUBMITTED_CASH_PURCHASE, plan_of_result, result_facts, trade_row_of_case,
 };
+use brk_tests_unit::results::Results;
+use brk_tests_unit::run_test;
 use brk_trade::{
     OrderPlanFacts, Plan, Reference, ReferenceFacts, Reply, ResultPlanFacts, TextUpdate,
     plan_cancel, plan_estimate, plan_order, plan_reference, plan_update,
@@ -126,9 +128,14 @@ fn expect_plans_without_lots(alloc: Global) -> Result<(), Fail> {
     expect_update_plan(alloc)
 }
 
-/// Checks the public names of brk_trade: the plans, with their row changes and replies. Fails if an
-/// answer differs, and if memory runs out.
-pub fn surface_of_brk_trade(alloc: Global) -> Result<(), Fail> {
+// Checks the public names of brk_trade: the plans, with their row changes and replies.
+fn surface_of_brk_trade(alloc: Global) -> Result<(), Fail> {
     expect_plans_over_lots(alloc)?;
     expect_plans_without_lots(alloc)
+}
+
+/// Runs the tests of this module.
+pub fn run_tests(rt: &HostRuntime, results: &mut Results) {
+    let alloc = rt.alloc();
+    run_test!(rt, results, surface_of_brk_trade(alloc));
 }

@@ -1,5 +1,7 @@
 use crate::expect::expect_some;
 use crate::planned_reply::expect_planned_reply;
+use crate::results::Results;
+use crate::run_test;
 use brk_money::{Cents, Day, Id, MoveId, Stamp};
 use brk_ref::MovedAmount;
 use brk_ref_orders::{Direction, Movement};
@@ -19,8 +21,7 @@ struct Case {
 
 // Checks that the reply to the movement of a case, which has the number 4, after the last stamp
 // 1709251200021, at an earlier clock reading, or `no,` and the refusal of the movement, is the text
-// `wanted`. Fails with both texts if not. Fails also if a number of the case is not within its
-// limits, and if memory runs out.
+// `wanted`.
 fn expect_movement_reply(alloc: Global, case: &Case, wanted: &str) -> Result<(), Fail> {
     let movement = Movement {
         direction: case.direction,
@@ -88,12 +89,12 @@ const MOVEMENTS: [(Case, &str); 5] = [
     ),
 ];
 
-/// Checks the replies to a deposit and to a withdrawal, with their stamp, their number and the new
-/// balance, which may be below 0. Checks that a deposit beyond the limit of the balance is refused
-/// with `Range` (14), `balance`, a deposit to an account that does not exist with `NoAccount` (1),
-/// also beyond the limit of movements, and another deposit beyond this limit with `Range` (14),
-/// `moves`. Fails if not, and if memory runs out.
-pub fn movements_return_replies_or_refusals(alloc: Global) -> Result<(), Fail> {
+// Checks the replies to a deposit and to a withdrawal, with their stamp, their number and the new
+// balance, which may be below 0. Checks that a deposit beyond the limit of the balance is refused
+// with `Range` (14), `balance`, a deposit to an account that does not exist with `NoAccount` (1),
+// also beyond the limit of movements, and another deposit beyond this limit with `Range` (14),
+// `moves`.
+fn movements_return_replies_or_refusals(alloc: Global) -> Result<(), Fail> {
     for (case, wanted) in &MOVEMENTS {
         expect_movement_reply(alloc, case, wanted)?;
     }
@@ -103,8 +104,7 @@ pub fn movements_return_replies_or_refusals(alloc: Global) -> Result<(), Fail> {
 // Checks that the reply to the command that sets `days` as the first day of one-day settlement, or
 // `no,` and the refusal of the command, is the text `wanted`. The desk has `rule` as this day, or
 // has none set if `rule` is `None`; both days are in days since 1970-01-01. Its last stamp is
-// 1709251200015, on 2024-03-01 UTC, and the clock reading is earlier. Fails with both texts if not.
-// Fails also if a day is not within its limits, and if memory runs out.
+// 1709251200015, on 2024-03-01 UTC, and the clock reading is earlier.
 fn expect_one_day_settlement_reply(
     alloc: Global,
     days: i32,
@@ -122,12 +122,22 @@ fn expect_one_day_settlement_reply(
     expect_planned_reply(alloc, planned, wanted)
 }
 
-/// Checks that a first day of one-day settlement is refused with `TooEarly` (22) if it is the day
-/// of the command's stamp, and accepted if it is the next day, and that the day of the stamp is
-/// refused with `Exists` (15) if the desk has a first day already. Fails if not, and if memory runs
-/// out.
-pub fn one_day_settlement_must_start_in_the_future(alloc: Global) -> Result<(), Fail> {
+// Checks that a first day of one-day settlement is refused with `TooEarly` (22) if it is the day of
+// the command's stamp, and accepted if it is the next day, and that the day of the stamp is refused
+// with `Exists` (15) if the desk has a first day already.
+fn one_day_settlement_must_start_in_the_future(alloc: Global) -> Result<(), Fail> {
     expect_one_day_settlement_reply(alloc, 19_783, None, "no,22")?;
     expect_one_day_settlement_reply(alloc, 19_784, None, "1709251200016")?;
     expect_one_day_settlement_reply(alloc, 19_783, Some(19_784), "no,15")
+}
+
+/// Runs the tests of this module.
+pub fn run_tests(rt: &HostRuntime, results: &mut Results) {
+    let alloc = rt.alloc();
+    run_test!(rt, results, movements_return_replies_or_refusals(alloc));
+    run_test!(
+        rt,
+        results,
+        one_day_settlement_must_start_in_the_future(alloc)
+    );
 }

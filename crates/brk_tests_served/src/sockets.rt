@@ -4,6 +4,8 @@ use brk_cli_exit::Ending;
 use brk_cli_jobs::serve_on;
 use brk_desk::Desk;
 use brk_tests_desks::{Still, expect, new_desk, open_in_memory};
+use brk_tests_unit::results::Results;
+use brk_tests_unit::run_test;
 use sqlite::{Alter, Connection};
 use std::alloc::Global;
 use std::io;
@@ -50,8 +52,7 @@ const PEERS: [(&str, Option<&str>); 6] = [
 ];
 
 /// Connects a peer to the listener, sends the bytes `input` and returns the stream of the peer. If
-/// `waits` is true, shuts down the writing side of the stream after the bytes. Fails if the address
-/// of the listener cannot be read, or if the peer cannot connect, send or shut down.
+/// `waits` is true, shuts down the writing side of the stream after the bytes.
 fn connect_peer_and_send(
     rt: &HostRuntime,
     listener: &TcpListener,
@@ -83,7 +84,7 @@ fn connect_all_peers_and_send(
 }
 
 /// Checks that each peer in `waiting` receives exactly its wanted replies until the end of its
-/// stream. Fails if not, if a stream cannot be read or is not UTF-8, or if memory runs out.
+/// stream.
 fn expect_peer_replies(alloc: Global, waiting: Vec<(TcpStream, &'static str)>) -> Result<(), Fail> {
     for (peer, wanted) in waiting {
         let told = io::read_to_string(alloc, peer)?;
@@ -123,13 +124,17 @@ fn expect_streams_served_on_desk<S: Alter + Drop>(
     expect(matches!(&served, Err(Ending::Net)), "no stream")
 }
 
-/// Checks that six streams over sockets are served in sequence on one desk, that the peers that
-/// wait for replies receive the replies in `PEERS`, and that serving fails with `Net` if no stream
-/// can be accepted. Fails also if a socket of this machine cannot be used, if the desk cannot be
-/// created, or if memory runs out.
-pub fn socket_streams_share_one_desk(rt: &HostRuntime) -> Result<(), Fail> {
+// Checks that six streams over sockets are served in sequence on one desk, that the peers that wait
+// for replies receive the replies in `PEERS`, and that serving fails with `Net` if no stream can be
+// accepted.
+fn socket_streams_share_one_desk(rt: &HostRuntime) -> Result<(), Fail> {
     let alloc = rt.alloc();
     let listener = TcpListener::bind(rt, ("127.0.0.1", 0))?;
     let waiting = connect_all_peers_and_send(rt, &listener)?;
     expect_streams_served_on_desk(alloc, open_in_memory(alloc), &listener, waiting)
+}
+
+/// Runs the tests of this module.
+pub fn run_tests(rt: &HostRuntime, results: &mut Results) {
+    run_test!(rt, results, socket_streams_share_one_desk(rt));
 }

@@ -1,11 +1,6 @@
 //! Test of a service whose file fails: if the fault closes the store, the file is opened again
 //! before the next stream, or the service ends.
 
-use crate::crashes::{STOPS, expect_committed_rows, fail_unless, tables_after_each_row};
-use crate::machine::{
-    CACHED_PAGES, Held, MachineCrash, close_database, files_after_crash, files_failing_at_crash,
-    files_with_reference_data, open_database, options_with_cached_pages, run_batch_until_crash,
-};
 use brk_cli_exit::Ending;
 use brk_cli_jobs::{DeskFiles, serve_file_on};
 use brk_money::Fault;
@@ -14,6 +9,13 @@ use brk_tests_desks::Still;
 use brk_tests_desks::requests::format_post_request;
 use brk_tests_desks::retried::{ROWS, all_lines_of_retry};
 use brk_tests_desks::worked::format_batch;
+use brk_tests_files::crashes::{STOPS, expect_committed_rows, fail_unless, tables_after_each_row};
+use brk_tests_files::machine::{
+    CACHED_PAGES, Held, MachineCrash, close_database, files_after_crash, files_failing_at_crash,
+    files_with_reference_data, open_database, options_with_cached_pages, run_batch_until_crash,
+};
+use brk_tests_unit::results::Results;
+use brk_tests_unit::run_test;
 use sqlite::{Alter, Connection, FileStore, Files};
 use sqlite_disk::{Fuse, Memory};
 use std::alloc::{AllocError, Global};
@@ -153,14 +155,14 @@ impl DeskFiles for FailingFiles {
     }
 }
 
-// Returns the JSON list of the fields of a row. Fails only if memory runs out.
+// Returns the JSON list of the fields of a row.
 fn json_of_row(alloc: Global, row: &str) -> Result<String, AllocError> {
     let fields = row.replace(alloc, ',', "\",\"")?;
     format!(in alloc; "[\"{fields}\"]")
 }
 
 // Appends the text of the request for a row, under the key with this number of the batch of
-// `format_batch`. Fails only if memory runs out.
+// `format_batch`.
 fn append_row_request(
     alloc: Global,
     requests: &mut String,
@@ -174,8 +176,7 @@ fn append_row_request(
 }
 
 // Returns the text of a request for the last trades of account 100, and of one for each of the
-// first `rows` rows of `ROWS`, at most six, under the keys of the batch of `format_batch`. Fails
-// only if memory runs out.
+// first `rows` rows of `ROWS`, at most six, under the keys of the batch of `format_batch`.
 fn requests_of_stream(alloc: Global, rows: usize) -> Result<String, AllocError> {
     let mut requests = format_post_request(alloc, "/ask/recent", "[\"100\"]")?;
     let mut number = 1u64;
@@ -186,7 +187,7 @@ fn requests_of_stream(alloc: Global, rows: usize) -> Result<String, AllocError> 
     Ok(requests)
 }
 
-// Returns the text of the requests of each stream. Fails only if memory runs out.
+// Returns the text of the requests of each stream.
 fn requests_of_streams(alloc: Global) -> Result<Vec<String>, AllocError> {
     let mut requests = Vec::new(alloc);
     for rows in ROWS_OF_STREAMS {
@@ -195,8 +196,7 @@ fn requests_of_streams(alloc: Global) -> Result<Vec<String>, AllocError> {
     Ok(requests)
 }
 
-// Connects a peer to an address, and sends `requests`. Fails if it cannot connect, send or shut
-// down.
+// Connects a peer to an address, and sends `requests`.
 fn connect_peer_and_send(
     rt: &HostRuntime,
     address: SocketAddr,
@@ -208,8 +208,7 @@ fn connect_peer_and_send(
     Ok(peer)
 }
 
-// Connects a peer to the listener for each stream, and sends its `requests`. Fails if a peer cannot
-// connect, send or shut down, or if memory runs out.
+// Connects a peer to the listener for each stream, and sends its `requests`.
 fn connect_peers_and_send(
     rt: &HostRuntime,
     listener: &TcpListener,
@@ -307,8 +306,7 @@ struct Served {
 }
 
 // Opens the files and serves `STREAMS` streams on the desk in them, with the requests `requests`.
-// Returns what the service did, or `None` if the files cannot be opened. Fails if a socket of this
-// machine cannot be used, or if memory runs out.
+// Returns what the service did, or `None` if the files cannot be opened.
 fn serve_rows(
     rt: &HostRuntime,
     files: &FailingFiles,
@@ -359,11 +357,10 @@ impl Served {
     }
 }
 
-// Checks that a service ended with the store fault after its files were opened again, if they failed
-// again (`goes_on`). Otherwise checks that each stream after that of the fault has a reply to its
-// query, since its store is open: the old one, or that of the files, opened again; and that the
-// service is complete if no file failed, or if the files were opened again. Fails if not all of this
-// is so.
+// Checks that a service ended with the store fault after its files were opened again, if they
+// failed again (`goes_on`). Otherwise checks that each stream after that of the fault has a reply
+// to its query, since its store is open: the old one, or that of the files, opened again; and that
+// the service is complete if no file failed, or if the files were opened again.
 fn expect_streams_served(stop: MachineCrash, goes_on: bool, served: Served) -> Result<(), Fail> {
     let is_ended = served.ended_with_store_fault();
     if goes_on {
@@ -388,8 +385,7 @@ fn expect_streams_served(stop: MachineCrash, goes_on: bool, served: Served) -> R
 
 // Checks that the files have the rows that were accepted, or one row more, and that the batch of
 // all rows is then completed, with the stored replies to these rows, and passes its audit. `tables`
-// are the tables after each number of rows, from none on. Fails if not all of this is so, or if
-// memory runs out.
+// are the tables after each number of rows, from none on.
 fn expect_batch_completed(
     alloc: Global,
     stop: MachineCrash,
@@ -434,8 +430,7 @@ fn expect_recovered(
 // Serves `STREAMS` streams on the desk in the files `start`, which fail by `stop` when they are
 // opened first. When they are opened again they fail at once if `goes_on` is true, and otherwise
 // never. Checks the service (`expect_recovered`), and returns what it did, or `None` if the files
-// could not be opened at first. Fails if what it checks is not so, if a socket of this machine cannot
-// be used, or if memory runs out.
+// could not be opened at first.
 fn expect_service_recovered(
     rt: &HostRuntime,
     stop: MachineCrash,
@@ -478,14 +473,14 @@ fn expect_each_service_recovered(
     Err(Fail::new("always stopped"))
 }
 
-/// Checks the service of a desk in files that serves a query and the first rows of `ROWS` on each of
-/// three streams, two more than on the stream before, and whose log or database file fails at each
-/// of its calls in turn, and at all later ones, with the bytes that were not synced lost or stored.
-/// A stream after the failure has a reply to its query: its store is open, or the files were opened
-/// again. If they can be, the last stream has a reply to each row; if they fail again at once, the
-/// service ends with `Open(Store)`. Both happen with each of the files. The desk in the files then
-/// has all rows that were accepted, or one row more, and its batch can be completed.
-pub fn a_served_desk_recovers_from_disk_faults(rt: &HostRuntime) -> Result<(), Fail> {
+// Checks the service of a desk in files that serves a query and the first rows of `ROWS` on each of
+// three streams, two more than on the stream before, and whose log or database file fails at each
+// of its calls in turn, and at all later ones, with the bytes that were not synced lost or stored.
+// A stream after the failure has a reply to its query: its store is open, or the files were opened
+// again. If they can be, the last stream has a reply to each row; if they fail again at once, the
+// service ends with `Open(Store)`. Both happen with each of the files. The desk in the files then
+// has all rows that were accepted, or one row more, and its batch can be completed.
+fn a_served_desk_recovers_from_disk_faults(rt: &HostRuntime) -> Result<(), Fail> {
     let requests = requests_of_streams(rt.alloc())?;
     let tables = tables_after_each_row(rt.alloc())?;
     let start = files_with_reference_data(rt.alloc())?;
@@ -498,4 +493,9 @@ pub fn a_served_desk_recovers_from_disk_faults(rt: &HostRuntime) -> Result<(), F
         expect_each_service_recovered(rt, stop, service)?;
     }
     Ok(())
+}
+
+/// Runs the tests of this module.
+pub fn run_tests(rt: &HostRuntime, results: &mut Results) {
+    run_test!(rt, results, a_served_desk_recovers_from_disk_faults(rt));
 }
