@@ -12,8 +12,7 @@ use brk_ref::{BatchName, RowNumber};
 use brk_tests_desks::desks::{Still, desk_with_reference_data, open_in_memory};
 use brk_tests_surface_rules::view::format_records;
 use brk_tests_unit::expect::{expect, expect_text};
-use brk_tests_unit::results::Results;
-use brk_tests_unit::run_test;
+use brk_tests_unit::{Results, run_test};
 use sqlite::{Alter, Connection};
 use std::alloc::{AllocError, Global};
 use std::test::Fail;
@@ -297,7 +296,6 @@ fn surface_of_brk_desk(alloc: Global) -> Result<(), Fail> {
     expect_calls_after_trades(alloc, open_in_memory(alloc))
 }
 
-/// Runs the tests of this module.
 pub fn run_tests(rt: &HostRuntime, results: &mut Results) {
     let alloc = rt.alloc();
     run_test!(rt, results, a_run_has_an_outcome_for_each_call(alloc));

@@ -11,8 +11,7 @@ use brk_tests_desks::retried::{ROWS, all_lines_of_retry};
 use brk_tests_desks::tables::expect_all_tables;
 use brk_tests_desks::worked::format_batch;
 use brk_tests_unit::expect::expect;
-use brk_tests_unit::results::Results;
-use brk_tests_unit::run_test;
+use brk_tests_unit::{Results, run_test};
 use sqlite::{Alter, Connection};
 use std::alloc::Global;
 use std::io::ErrorKind;
@@ -204,7 +203,6 @@ fn a_batch_can_be_retried_after_a_write_fault(alloc: Global) -> Result<(), Fail>
     expect_retries(alloc, whole, &cuts, lines.len())
 }
 
-/// Runs the tests of this module.
 pub fn run_tests(rt: &HostRuntime, results: &mut Results) {
     let alloc = rt.alloc();
     run_test!(

@@ -16,9 +16,8 @@ mod statements;
 mod store;
 mod walks;
 
-use brk_tests_unit::results::Results;
+use brk_tests_unit::Results;
 
-/// Runs all tests.
 pub fn run_tests(rt: &HostRuntime, results: &mut Results) {
     cuts::run_tests(rt, results);
     http::cuts::run_tests(rt, results);

@@ -6,8 +6,7 @@ use brk_money::Stamp;
 use brk_tests_desks::desks::{
     Case, desk_with_reference_data, expect_batch_lines, open_in_memory, run_batch_at_desk,
 };
-use brk_tests_unit::results::Results;
-use brk_tests_unit::run_test;
+use brk_tests_unit::{Results, run_test};
 use sqlite::{Alter, Connection};
 use std::alloc::{AllocError, Global};
 use std::test::Fail;
@@ -97,7 +96,6 @@ fn a_long_run_answers_as_the_batch_of_its_rows(alloc: Global) -> Result<(), Fail
     expect_batch_lines(case, &told, wanted.as_str())
 }
 
-/// Runs the tests of this module.
 pub fn run_tests(rt: &HostRuntime, results: &mut Results) {
     let alloc = rt.alloc();
     run_test!(

@@ -3,8 +3,7 @@
 use brk_money::{Condition, Fault};
 use brk_tests_desks::desks::{create_store, expect_connection, new_store, open_in_memory};
 use brk_tests_unit::expect::expect;
-use brk_tests_unit::results::Results;
-use brk_tests_unit::run_test;
+use brk_tests_unit::{Results, run_test};
 use sqlite::{Alter, Connection};
 use std::alloc::Global;
 use std::test::Fail;
@@ -76,7 +75,6 @@ fn creation_fails_beside_a_table_name_in_other_case(alloc: Global) -> Result<(),
     expect_not_empty(fault_of_creation(conn))
 }
 
-/// Runs the tests of this module.
 pub fn run_tests(rt: &HostRuntime, results: &mut Results) {
     let alloc = rt.alloc();
     run_test!(rt, results, a_second_creation_fails(alloc));

@@ -7,8 +7,7 @@ use brk_store::{LotPages, Store};
 use brk_tests_desks::desks::{buy_for_new_account, desk_with_reference_data, open_in_memory};
 use brk_tests_desks::worked::FIRST_MOMENT;
 use brk_tests_unit::expect::expect;
-use brk_tests_unit::results::Results;
-use brk_tests_unit::run_test;
+use brk_tests_unit::{Results, run_test};
 use brk_trade::Change;
 use sqlite::{Alter, Connection};
 use std::alloc::Global;
@@ -172,7 +171,6 @@ fn a_sale_reads_only_the_pages_it_needs(alloc: Global) -> Result<(), Fail> {
     expect_rows_read_beside(alloc, open_in_memory(alloc), &symbol, OTHER_LOTS)
 }
 
-/// Runs the tests of this module.
 pub fn run_tests(rt: &HostRuntime, results: &mut Results) {
     let alloc = rt.alloc();
     run_test!(rt, results, a_sale_reads_only_the_pages_it_needs(alloc));

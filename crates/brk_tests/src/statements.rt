@@ -8,8 +8,7 @@ use brk_tests_desks::desks::{
 use brk_tests_desks::faulty::Narrow;
 use brk_tests_desks::statements::{Asked, BOUGHT, WANTED, account_and_days};
 use brk_tests_unit::expect::expect;
-use brk_tests_unit::results::Results;
-use brk_tests_unit::run_test;
+use brk_tests_unit::{Results, run_test};
 use sqlite::{Alter, Connection};
 use std::alloc::Global;
 use std::io::ErrorKind;
@@ -86,7 +85,6 @@ fn a_failed_write_ends_the_statement(alloc: Global) -> Result<(), Fail> {
     expect_each_statement_write_fault(alloc, open_in_memory(alloc), &asked)
 }
 
-/// Runs the tests of this module.
 pub fn run_tests(rt: &HostRuntime, results: &mut Results) {
     let alloc = rt.alloc();
     run_test!(rt, results, a_failed_write_ends_the_statement(alloc));

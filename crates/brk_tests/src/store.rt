@@ -7,8 +7,7 @@ use brk_ref::{CashRow, SummaryRow, Symbol};
 use brk_store::Store;
 use brk_tests_desks::desks::open_in_memory;
 use brk_tests_unit::expect::expect;
-use brk_tests_unit::results::Results;
-use brk_tests_unit::run_test;
+use brk_tests_unit::{Results, run_test};
 use sqlite::{Alter, Connection};
 use std::alloc::Global;
 use std::test::Fail;
@@ -109,7 +108,6 @@ fn surface_of_brk_store(alloc: Global) -> Result<(), Fail> {
     expect_numbers_of_new_store(alloc, open_in_memory(alloc))
 }
 
-/// Runs the tests of this module.
 pub fn run_tests(rt: &HostRuntime, results: &mut Results) {
     let alloc = rt.alloc();
     run_test!(rt, results, surface_of_brk_store(alloc));

@@ -8,8 +8,7 @@ use brk_tests_desks::desks::{
     Step, buy_for_new_account, desk_after_step, desk_with_reference_data, open_in_memory,
 };
 use brk_tests_unit::expect::expect;
-use brk_tests_unit::results::Results;
-use brk_tests_unit::run_test;
+use brk_tests_unit::{Results, run_test};
 use sqlite::{Alter, Connection};
 use std::alloc::Global;
 use std::test::Fail;
@@ -275,7 +274,6 @@ fn walks_pass_rows_in_order(alloc: Global) -> Result<(), Fail> {
     expect_walks_beside(alloc, open_in_memory(alloc), OTHER_PURCHASES)
 }
 
-/// Runs the tests of this module.
 pub fn run_tests(rt: &HostRuntime, results: &mut Results) {
     let alloc = rt.alloc();
     run_test!(rt, results, walks_pass_rows_in_order(alloc));

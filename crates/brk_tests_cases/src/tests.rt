@@ -1,7 +1,7 @@
 //! The crates of tests.
 
 use brk_tests_replay::TestCrates;
-use brk_tests_unit::results::Results;
+use brk_tests_unit::Results;
 
 /// The crates of tests that the command `tests` of a transcript runs.
 #[derive(Clone, Copy)]

@@ -15,8 +15,7 @@ use brk_tests_desks::worked;
 use brk_tests_desks::worked::{
     LAST_FIRST_LINES, LAST_FIRST_ROWS, SET, SET_LINES, format_batch, lines_of_retry,
 };
-use brk_tests_unit::results::Results;
-use brk_tests_unit::run_test;
+use brk_tests_unit::{Results, run_test};
 use sqlite::{Alter, Connection};
 use std::alloc::Global;
 use std::test::Fail;
@@ -434,7 +433,6 @@ fn desks_in_files_can_be_reopened(alloc: Global) -> Result<(), Fail> {
     )
 }
 
-/// Runs the tests of this module.
 pub fn run_tests(rt: &HostRuntime, results: &mut Results) {
     let alloc = rt.alloc();
     run_test!(rt, results, desk_creation_recovers_from_crashes(alloc));

@@ -8,8 +8,7 @@ use crate::machine::{
 };
 use brk_tests_desks::expect;
 use brk_tests_desks::worked::{append_end_record, append_purchase};
-use brk_tests_unit::results::Results;
-use brk_tests_unit::run_test;
+use brk_tests_unit::{Results, run_test};
 use std::alloc::{AllocError, Global};
 use std::test::Fail;
 
@@ -128,7 +127,6 @@ fn calls_of_a_sale_do_not_grow_with_lots(alloc: Global) -> Result<(), Fail> {
     expect_calls_of_sales(alloc, &held)
 }
 
-/// Runs the tests of this module.
 pub fn run_tests(rt: &HostRuntime, results: &mut Results) {
     let alloc = rt.alloc();
     run_test!(rt, results, calls_of_a_sale_do_not_grow_with_lots(alloc));

@@ -10,9 +10,8 @@ pub mod machine;
 mod statements;
 mod streams;
 
-use brk_tests_unit::results::Results;
+use brk_tests_unit::Results;
 
-/// Runs all tests.
 pub fn run_tests(rt: &HostRuntime, results: &mut Results) {
     crashes::run_tests(rt, results);
     file_calls::run_tests(rt, results);

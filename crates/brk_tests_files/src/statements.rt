@@ -8,8 +8,7 @@ use crate::machine::{
 };
 use brk_tests_desks::expect;
 use brk_tests_desks::statements::account_and_days;
-use brk_tests_unit::results::Results;
-use brk_tests_unit::run_test;
+use brk_tests_unit::{Results, run_test};
 use std::alloc::Global;
 use std::test::Fail;
 
@@ -131,7 +130,6 @@ fn a_failing_disk_leaves_whole_statement_lines(alloc: Global) -> Result<(), Fail
     expect_whole_lines_over_failing_disk(alloc, &held)
 }
 
-/// Runs the tests of this module.
 pub fn run_tests(rt: &HostRuntime, results: &mut Results) {
     let alloc = rt.alloc();
     run_test!(

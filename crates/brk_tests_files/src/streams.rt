@@ -3,8 +3,7 @@
 use crate::jobs::{Ended, Job, Observation, Task};
 use crate::machine::{Held, MachineCrash, perform_job_until_crash};
 use brk_tests_desks::expect;
-use brk_tests_unit::results::Results;
-use brk_tests_unit::run_test;
+use brk_tests_unit::{Results, run_test};
 use sqlite::Options;
 use std::alloc::Global;
 use std::test::Fail;
@@ -72,7 +71,6 @@ fn a_store_fault_is_the_last_reply(alloc: Global) -> Result<(), Fail> {
     Err(Fail::new("no reply"))
 }
 
-/// Runs the tests of this module.
 pub fn run_tests(rt: &HostRuntime, results: &mut Results) {
     let alloc = rt.alloc();
     run_test!(rt, results, a_store_fault_is_the_last_reply(alloc));

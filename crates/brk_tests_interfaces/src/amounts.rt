@@ -3,8 +3,7 @@
 use brk_money::Wide;
 use brk_report_lines::amount_line;
 use brk_tests_unit::expect::expect;
-use brk_tests_unit::results::Results;
-use brk_tests_unit::run_test;
+use brk_tests_unit::{Results, run_test};
 use std::alloc::Global;
 use std::test::Fail;
 
@@ -47,7 +46,6 @@ fn wide_amounts_are_printed_whole(alloc: Global) -> Result<(), Fail> {
     Ok(())
 }
 
-/// Runs the tests of this module.
 pub fn run_tests(rt: &HostRuntime, results: &mut Results) {
     let alloc = rt.alloc();
     run_test!(rt, results, wide_amounts_are_printed_whole(alloc));

@@ -11,8 +11,7 @@ use brk_import_engine::{
 use brk_money::{Fault, Limit, Planned, Refusal, Stamp};
 use brk_ref::{Answer, Key};
 use brk_tests_unit::expect::{expect, expect_equal};
-use brk_tests_unit::results::Results;
-use brk_tests_unit::run_test;
+use brk_tests_unit::{Results, run_test};
 use std::alloc::{AllocError, Global};
 use std::io;
 use std::io::{Read, Write};
@@ -509,7 +508,6 @@ fn input_after_the_end_record_is_not_read(alloc: Global) -> Result<(), Fail> {
     expect_batch_result(alloc, reader, batch_counts(1, 1, 3), LINES)
 }
 
-/// Runs the tests of this module.
 pub fn run_tests(rt: &HostRuntime, results: &mut Results) {
     let alloc = rt.alloc();
     run_test!(rt, results, each_row_of_a_batch_gets_a_line(alloc));

@@ -3,8 +3,7 @@
 use brk_cli_exit::brk_io::{Clock, ProgramClock};
 use brk_money::Stamp;
 use brk_tests_unit::expect::expect_equal;
-use brk_tests_unit::results::Results;
-use brk_tests_unit::run_test;
+use brk_tests_unit::{Results, run_test};
 use std::io::{self, ErrorKind};
 use std::rt;
 use std::test::Fail;
@@ -60,7 +59,6 @@ fn an_unreadable_clock_reads_as_zero() -> Result<(), Fail> {
     expect_equal(ProgramClock::new(&machine, None).now().get(), 0)
 }
 
-/// Runs the tests of this module.
 pub fn run_tests(rt: &HostRuntime, results: &mut Results) {
     run_test!(rt, results, a_fixed_clock_returns_its_timestamp(rt));
     run_test!(rt, results, clock_readings_are_whole_milliseconds());

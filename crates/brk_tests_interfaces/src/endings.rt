@@ -4,8 +4,7 @@ use brk_cli_exit::{Ending, end_with};
 use brk_http_engine::{FaultKind as StreamFault, ServeFault};
 use brk_money::{Condition, Fault, Refusal};
 use brk_tests_unit::expect::expect_equal;
-use brk_tests_unit::results::Results;
-use brk_tests_unit::run_test;
+use brk_tests_unit::{Results, run_test};
 use std::alloc::Global;
 use std::io;
 use std::io::Write;
@@ -144,7 +143,6 @@ fn a_closed_error_stream_changes_no_exit_status() -> Result<(), Fail> {
     expect_equal(status, 0)
 }
 
-/// Runs the tests of this module.
 pub fn run_tests(rt: &HostRuntime, results: &mut Results) {
     let alloc = rt.alloc();
     run_test!(

@@ -9,9 +9,8 @@ mod clock;
 pub mod endings;
 pub mod words;
 
-use brk_tests_unit::results::Results;
+use brk_tests_unit::Results;
 
-/// Runs all tests.
 pub fn run_tests(rt: &HostRuntime, results: &mut Results) {
     amounts::run_tests(rt, results);
     batches::run_tests(rt, results);

@@ -1,8 +1,7 @@
 use brk_cli_args::{Job, UsageFault, read_words};
 use brk_money::{Id, Stamp};
 use brk_tests_unit::expect::expect;
-use brk_tests_unit::results::Results;
-use brk_tests_unit::run_test;
+use brk_tests_unit::{Results, run_test};
 use std::alloc::{AllocError, Global};
 use std::test::Fail;
 
@@ -245,7 +244,6 @@ fn reports_empty_arguments(alloc: Global) -> Result<(), Fail> {
     expect_parsed_command_line(alloc, "brk|serve|--port|1|--at|", &[EMPTY_STAMP])
 }
 
-/// Runs the tests of this module.
 pub fn run_tests(rt: &HostRuntime, results: &mut Results) {
     let alloc = rt.alloc();
     run_test!(rt, results, parses_the_arguments_of_each_job(alloc));

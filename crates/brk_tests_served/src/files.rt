@@ -14,8 +14,7 @@ use brk_tests_files::machine::{
     CACHED_PAGES, Held, MachineCrash, close_database, files_after_crash, files_failing_at_crash,
     files_with_reference_data, open_database, options_with_cached_pages, run_batch_until_crash,
 };
-use brk_tests_unit::results::Results;
-use brk_tests_unit::run_test;
+use brk_tests_unit::{Results, run_test};
 use sqlite::{Alter, Connection, FileStore, Files};
 use sqlite_disk::{Fuse, Memory};
 use std::alloc::{AllocError, Global};
@@ -495,7 +494,6 @@ fn a_served_desk_recovers_from_disk_faults(rt: &HostRuntime) -> Result<(), Fail>
     Ok(())
 }
 
-/// Runs the tests of this module.
 pub fn run_tests(rt: &HostRuntime, results: &mut Results) {
     run_test!(rt, results, a_served_desk_recovers_from_disk_faults(rt));
 }

@@ -6,9 +6,8 @@
 mod files;
 mod sockets;
 
-use brk_tests_unit::results::Results;
+use brk_tests_unit::Results;
 
-/// Runs all tests.
 pub fn run_tests(rt: &HostRuntime, results: &mut Results) {
     files::run_tests(rt, results);
     sockets::run_tests(rt, results);

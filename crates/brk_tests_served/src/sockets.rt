@@ -4,8 +4,7 @@ use brk_cli_exit::Ending;
 use brk_cli_jobs::serve_on;
 use brk_desk::Desk;
 use brk_tests_desks::{Still, expect, new_desk, open_in_memory};
-use brk_tests_unit::results::Results;
-use brk_tests_unit::run_test;
+use brk_tests_unit::{Results, run_test};
 use sqlite::{Alter, Connection};
 use std::alloc::Global;
 use std::io;
@@ -134,7 +133,6 @@ fn socket_streams_share_one_desk(rt: &HostRuntime) -> Result<(), Fail> {
     expect_streams_served_on_desk(alloc, open_in_memory(alloc), &listener, waiting)
 }
 
-/// Runs the tests of this module.
 pub fn run_tests(rt: &HostRuntime, results: &mut Results) {
     run_test!(rt, results, socket_streams_share_one_desk(rt));
 }

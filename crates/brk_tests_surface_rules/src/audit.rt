@@ -3,8 +3,7 @@ use brk_audit::{Sheets, audit_rows};
 use brk_money::Condition;
 use brk_ref::{BrokerRow, check_broker};
 use brk_tests_unit::expect::expect_equal;
-use brk_tests_unit::results::Results;
-use brk_tests_unit::run_test;
+use brk_tests_unit::{Results, run_test};
 use brk_trade_rows::Schema;
 use std::alloc::Global;
 use std::test::Fail;
@@ -54,7 +53,6 @@ fn surface_of_brk_audit(alloc: Global) -> Result<(), Fail> {
     expect_audit(alloc, 1, Some(Condition::Count))
 }
 
-/// Runs the tests of this module.
 pub fn run_tests(rt: &HostRuntime, results: &mut Results) {
     let alloc = rt.alloc();
     run_test!(rt, results, surface_of_brk_audit(alloc));

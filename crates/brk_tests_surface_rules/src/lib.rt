@@ -8,13 +8,11 @@ mod audit;
 mod money;
 mod planned;
 mod reference;
-mod rows;
 mod trade;
 pub mod view;
 
-use brk_tests_unit::results::Results;
+use brk_tests_unit::Results;
 
-/// Runs all tests.
 pub fn run_tests(rt: &HostRuntime, results: &mut Results) {
     money::run_tests(rt, results);
     reference::run_tests(rt, results);

@@ -1,7 +1,6 @@
 use brk_money::{Condition, Fault};
 use brk_tests_unit::expect::{expect_equal, expect_text};
-use brk_tests_unit::results::Results;
-use brk_tests_unit::run_test;
+use brk_tests_unit::{Results, run_test};
 use std::test::Fail;
 
 // The faults, each with its number.
@@ -19,7 +18,6 @@ fn faults_have_their_numbers() -> Result<(), Fail> {
     expect_text(Condition::NotEmpty.output_word(), "notempty")
 }
 
-/// Runs the tests of this module.
 pub fn run_tests(rt: &HostRuntime, results: &mut Results) {
     run_test!(rt, results, faults_have_their_numbers());
 }

@@ -7,9 +7,8 @@ use brk_ref::{
     overlaps, permitted, tax_sum,
 };
 use brk_tests_unit::expect::{expect_equal, expect_text};
-use brk_tests_unit::results::Results;
-use brk_tests_unit::run_test;
 use brk_tests_unit::texts::parse_text;
+use brk_tests_unit::{Results, run_test};
 use std::alloc::Global;
 use std::slice;
 use std::test::Fail;
@@ -215,7 +214,6 @@ fn surface_of_brk_ref(alloc: Global) -> Result<(), Fail> {
     expect_old_cash_row(alloc)
 }
 
-/// Runs the tests of this module.
 pub fn run_tests(rt: &HostRuntime, results: &mut Results) {
     let alloc = rt.alloc();
     run_test!(rt, results, surface_of_brk_ref(alloc));

@@ -2,9 +2,8 @@ use brk_money::{Cents, Id, Stamp, Wide};
 use brk_ref::LotChange;
 use brk_tests_unit::expect::expect_text;
 use brk_tests_unit::result_plans::{SUBMITTED_CASH_PURCHASE, trade_row_of_case};
-use brk_tests_unit::results::Results;
-use brk_tests_unit::run_test;
 use brk_tests_unit::texts::parse_text;
+use brk_tests_unit::{Results, run_test};
 use brk_view::{
     AccountStatus, AccountWorth, BrokerVolume, LotTouch, TouchedLots, View, broker_volume,
     lookup_account, lookup_ids, lookup_lots, lookup_symbol, position, recent, status, submitted,
@@ -115,7 +114,6 @@ fn surface_of_brk_view(alloc: Global) -> Result<(), Fail> {
     expect_touched_lots(alloc)
 }
 
-/// Runs the tests of this module.
 pub fn run_tests(rt: &HostRuntime, results: &mut Results) {
     let alloc = rt.alloc();
     run_test!(rt, results, surface_of_brk_view(alloc));

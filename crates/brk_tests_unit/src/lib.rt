@@ -9,13 +9,12 @@ mod move_plans;
 pub mod planned_reply;
 pub mod plans;
 pub mod result_plans;
-pub mod results;
+mod results;
 mod slow_lots;
 pub mod texts;
 
-use results::Results;
+pub use results::Results;
 
-/// Runs all tests.
 pub fn run_tests(rt: &HostRuntime, results: &mut Results) {
     lots::run_tests(rt, results);
     slow_lots::run_tests(rt, results);

@@ -2,9 +2,8 @@
 //! trade.
 
 use crate::planned_reply::expect_planned_reply;
-use crate::results::Results;
-use crate::run_test;
 use crate::texts::parse_text;
+use crate::{Results, run_test};
 use brk_lots::Position;
 use brk_money::{Id, Price, Qty, Rate, Stamp, TaxRate, TaxStatus, TradeType, Wide};
 use brk_ref::{ChargeAmount, LastTrade, RequestRow, Volume};
@@ -124,7 +123,6 @@ fn an_order_beyond_greatest_trade_id_is_refused(alloc: Global) -> Result<(), Fai
     expect_purchase_reply(alloc, 1_000_000_000_000, "no,14,trades")
 }
 
-/// Runs the tests of this module.
 pub fn run_tests(rt: &HostRuntime, results: &mut Results) {
     let alloc = rt.alloc();
     run_test!(rt, results, a_feed_beyond_volume_limit_is_refused(alloc));

@@ -1,8 +1,7 @@
 use crate::expect::expect_some;
 use crate::planned_reply::expect_planned_reply;
-use crate::results::Results;
-use crate::run_test;
 use crate::texts::parse_text;
+use crate::{Results, run_test};
 use brk_lots::Position;
 use brk_money::{Cents, Id, MoveId, Planned, Price, Qty, Rate, Stamp, Status, TaxRate, TradeType};
 use brk_ref::{
@@ -366,7 +365,6 @@ fn results_respect_holding_summary_limits(alloc: Global) -> Result<(), Fail> {
     Ok(())
 }
 
-/// Runs the tests of this module.
 pub fn run_tests(rt: &HostRuntime, results: &mut Results) {
     let alloc = rt.alloc();
     run_test!(rt, results, a_result_without_a_trade_is_refused(alloc));

@@ -10,8 +10,7 @@ use brk_tests_desks::desks::{
 use brk_tests_desks::faulty::{Cut, Failing, Narrow};
 use brk_tests_desks::tables::expect_all_tables;
 use brk_tests_unit::expect::expect;
-use brk_tests_unit::results::Results;
-use brk_tests_unit::run_test;
+use brk_tests_unit::{Results, run_test};
 use sqlite::{Alter, Connection};
 use std::alloc::Global;
 use std::io::ErrorKind;
@@ -183,7 +182,6 @@ fn a_stream_can_be_retried_after_a_write_fault(alloc: Global) -> Result<(), Fail
     expect_retries(alloc, &cuts, REPLIES.len())
 }
 
-/// Runs the tests of this module.
 pub fn run_tests(rt: &HostRuntime, results: &mut Results) {
     let alloc = rt.alloc();
     run_test!(

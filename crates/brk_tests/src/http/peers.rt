@@ -6,8 +6,7 @@ use brk_http::{
 };
 use brk_tests_desks::desks::{Still, desk_with_reference_data, open_in_memory};
 use brk_tests_unit::expect::expect;
-use brk_tests_unit::results::Results;
-use brk_tests_unit::run_test;
+use brk_tests_unit::{Results, run_test};
 use sqlite::{Alter, Connection};
 use std::alloc::Global;
 use std::test::Fail;
@@ -113,7 +112,6 @@ fn peers_in_memory_receive_their_replies(alloc: Global) -> Result<(), Fail> {
     expect(second.as_slice() == QUERY.1.as_bytes(), "the query")
 }
 
-/// Runs the tests of this module.
 pub fn run_tests(rt: &HostRuntime, results: &mut Results) {
     let alloc = rt.alloc();
     run_test!(rt, results, peers_in_memory_receive_their_replies(alloc));

@@ -5,8 +5,7 @@ use brk_http::ServeFault;
 use brk_tests_desks::desks::{desk_with_reference_data, open_in_memory, serve_stream_of_reader};
 use brk_tests_desks::faulty::Failing;
 use brk_tests_unit::expect::expect;
-use brk_tests_unit::results::Results;
-use brk_tests_unit::run_test;
+use brk_tests_unit::{Results, run_test};
 use sqlite::{Alter, Connection};
 use std::alloc::{AllocError, Global};
 use std::test::Fail;
@@ -186,7 +185,6 @@ fn a_stream_has_at_most_1_000_requests(alloc: Global) -> Result<(), Fail> {
     )
 }
 
-/// Runs the tests of this module.
 pub fn run_tests(rt: &HostRuntime, results: &mut Results) {
     let alloc = rt.alloc();
     run_test!(rt, results, streams_in_pieces_get_the_same_replies(alloc));
