@@ -1,6 +1,6 @@
 //! Tests of the edges of the program, which need no database: batches over a desk of the tests, the
-//! program's clock, the amounts of a statement, command-line arguments, and exit statuses with their
-//! lines. The command `tests` of a transcript runs them.
+//! program's clock, the amounts of a statement, and exit statuses with their lines. The command `jobs`
+//! of a transcript shows what command lines ask for. The command `tests` of a transcript runs them.
 #![tactic(auto)]
 
 mod amounts;
@@ -16,5 +16,4 @@ pub fn run_tests(rt: &HostRuntime, results: &mut Results) {
     batches::run_tests(rt, results);
     clock::run_tests(rt, results);
     endings::run_tests(rt, results);
-    words::run_tests(rt, results);
 }

@@ -8,7 +8,9 @@ use crate::records::{
     append_refusal_line, append_report, append_rows_of_tables, execute_ask_command,
     execute_print_command,
 };
-use crate::tests::{TestCrates, execute_figures_command, execute_tests_command};
+use crate::tests::{
+    TestCrates, execute_figures_command, execute_jobs_command, execute_tests_command,
+};
 use brk_desk::Desk;
 use brk_explain::{ExplainRequest, parse_explain, write_explanation};
 use brk_http::serve_stream;
@@ -458,6 +460,7 @@ pub fn execute_command<T: TestCrates>(
         }
         "tests" => execute_tests_command(rt, tests, out, words),
         "figures" => execute_figures_command(rt.alloc(), out, words, pieces),
+        "jobs" => execute_jobs_command(rt.alloc(), out, pieces),
         _ => execute_desk_or_database_command(rt.alloc(), out, place, verb, words, pieces),
     }
 }

@@ -1,6 +1,7 @@
-//! The commands `tests`, which runs tests that no transcript can state, and `figures`.
+//! The commands `tests`, which runs tests that no transcript can state, `figures` and `jobs`.
 
-use crate::lines::{Piece, append_output_line};
+use crate::lines::{Piece, append_escaped_output_lines, append_output_line};
+use brk_tests_interfaces::words::shown_job;
 use brk_tests_unit::figures::shown_figure;
 use std::alloc::{AllocError, Global};
 
@@ -38,6 +39,23 @@ pub fn execute_figures_command(
             Ok(figure) => append_output_line(out, figure.as_str())?,
             Err(_) => append_output_line(out, "! fault")?,
         }
+    }
+    Ok(())
+}
+
+/// Appends the job that each input line asks for (`shown_job`) as output lines.
+pub fn execute_jobs_command(
+    alloc: Global,
+    out: &mut String,
+    pieces: &[Piece],
+) -> Result<(), AllocError> {
+    for piece in pieces {
+        let line = str::from_utf8(&piece.bytes).unwrap_or("");
+        let mut job = shown_job(alloc, line)?;
+        if !job.ends_with('\n') {
+            job.push('\n')?;
+        }
+        append_escaped_output_lines(out, job.as_bytes())?;
     }
     Ok(())
 }
