@@ -81,7 +81,6 @@ class Source:
                 if public:
                     self.exported[name] = item
         self.code = USE.sub(' ', code)
-        self.words = Words(self.code)
         self.functions = [(name, Words(text)) for name, text in functions(self.code)]
         # called through a bound, or where a macro is
         self.implied = {name for block in TRAIT_METHODS.findall(self.code) for name, _ in functions(block)}
@@ -171,10 +170,13 @@ def written(tree):
 
 def unused(tree):
     """The public items that no function uses of those that are reached in their crate and above."""
-    users = {home: {home, *(crate for crate in tree.uses if home in tree.uses[crate])} for home in tree.uses}
+    words_of = {crate: [] for crate in tree.uses}
+    for (crate, _), words in tree.reached.items():
+        words_of[crate] += words
+    users = {home: [home, *(crate for crate in tree.uses if home in tree.uses[crate])] for home in tree.uses}
     for path, home, owner, name in items(tree):
         is_called = name not in tree.known[home] or (home, name) in tree.reached
-        if not is_called or not any(words.have(owner, name) for (crate, _), each in tree.reached.items() if crate in users[home] for words in each):
+        if not is_called or not any(words.have(owner, name) for crate in users[home] for words in words_of[crate]):
             yield path
 
 
