@@ -21,9 +21,11 @@ class WrongSetting(ValueError):
 def settings_of_file():
     """Returns the settings of FILE, or none if there is no file. Its lines are NAME=VALUE; no shell reads them."""
     try:
-        lines = FILE.read_text(encoding="utf-8").splitlines()
-    except (FileNotFoundError, NotADirectoryError):
+        lines = FILE.read_text(encoding="utf-8", errors="replace").splitlines()
+    except FileNotFoundError:
         return {}
+    except OSError as error:
+        raise WrongSetting(f"{FILE} cannot be read: {error.strerror}") from None
     found = (LINE.fullmatch(line.strip()) for line in lines)
     return {line[1]: line[2].strip().strip("\"'") for line in found if line}
 
