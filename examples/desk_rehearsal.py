@@ -104,16 +104,13 @@ class Copy:
             found = conn.execute("SELECT K_N, K_ROW FROM KEPT WHERE K_BATCH = ?", (batch,)).fetchall()
         return {number: row.split("\x1f") for number, row in found}
 
-    def booked(self, rows, batch):
-        """Yields each accepted row of another batch that equals one of `rows`: its text, batch, number and stamp. What was sent
-        without a key is not found."""
+    def booked(self, batch):
+        """Yields each accepted row of another batch. What was sent without a key is not found."""
         if not self.is_desk:
             return
-        wanted = {"\x1f".join(row) for row in rows}
         with self.opened() as conn:
             for text, other, number, line in conn.execute("SELECT K_ROW, K_BATCH, K_N, K_LINE FROM KEPT WHERE K_BATCH <> ?", (batch,)):
-                if text in wanted:
-                    yield text, other, number, int(line.split(",")[0])
+                yield text, other, number, int(line.split(",")[0])
 
     def run(self, program, batch, reading):
         """Runs a batch on the copy; returns its exit status, its lines and its messages."""
@@ -122,16 +119,18 @@ class Copy:
         return done.returncode, done.stdout.decode("utf-8", "replace"), done.stderr.decode("utf-8", "replace")
 
 
-def equal_rows(copy, batch, rows, reading):
+def equal_rows(accepted, rows, reading):
     """Returns for each row that was booked before what it equals: if a batch has half of the rows of the sheet, on any day, and
-    otherwise if it is of the day of the reading. Rows of the sheet that are equal are of the same day."""
+    otherwise if it is of the day of the reading. Rows of the sheet that are equal are of the same day. `accepted` yields the rows that
+    were booked: the text, the batch, the number and the stamp of each."""
     found, places = collections.defaultdict(list), collections.defaultdict(list)
     for number, row in enumerate(rows, 1):
         places["\x1f".join(row)].append(number)
     in_batch = collections.defaultdict(set)
-    for text, other, number, stamp in copy.booked(rows, batch):
-        in_batch[other].update(places[text])
-        found[text].append((other, number, stamp))
+    for text, other, number, stamp in accepted:
+        if text in places:
+            in_batch[other].update(places[text])
+            found[text].append((other, number, stamp))
     reasons = {}
     for text, numbers in places.items():
         for number, first in zip(numbers, [None, *numbers]):
