@@ -582,7 +582,7 @@ class Client:
             first = trades[-1][0][2]
 
     def submitted(self):
-        """The submitted trades: Trade, type, symbol, quantity, price asked for."""
+        """The submitted trades: Trade, type, symbol, quantity, requested price."""
         return [(Trade(record[0]), *record[1:]) for record in self.ask("submitted")]
 
 
