@@ -1,20 +1,25 @@
 #!/usr/bin/env python3
-"""Sets a small desk up, orders, cancels and sends a result, and prints the reply to each row: a program that uses
+"""Sets a small desk to practise with up, orders, cancels and sends a result, and prints the reply to each row: a program that uses
 examples/desk_client.py.
 
-    python3 examples/client.py JOURNAL --db FILE [--new] [--at MS]
-    python3 examples/client.py JOURNAL --port P
+    python3 examples/sandbox/client.py JOURNAL --db FILE [--new] [--at MS]
+    python3 examples/sandbox/client.py JOURNAL --port P
 
 Each row is in JOURNAL before it is sent. So the program may be killed at any moment and started again: it sends what has no reply,
 takes the replies that are there, and goes on after them. A second run on the same journal sends nothing and prints the same.
-It ends with 1 if a row cannot be sent.
+With --new it makes the desk, and marks it as a sandbox (mark.py of this folder). Any other desk has to have the mark. Exit status: 0 if
+all rows have a reply, 1 if a row cannot be sent, 2 if the arguments are wrong, 4 if the desk has no mark: nothing is sent then.
 """
 
 import argparse
+import os
+import sqlite3
 import sys
+import urllib.parse
 
 sys.dont_write_bytecode = True
 
+import mark  # noqa: E402
 import desk_client  # noqa: E402
 from desk_client import amount, row  # noqa: E402
 
@@ -70,6 +75,19 @@ def book(sender):
     print(f"the balance is {amount(balance)}, {amount(1_000_000 - balance)} less than at first")
 
 
+def is_blank(path):
+    """Whether a file is missing or empty, or is a desk without a row, as a run that was killed at its first row leaves."""
+    if not os.path.exists(path) or not os.path.getsize(path):
+        return True
+    conn = sqlite3.connect(f"file:{urllib.parse.quote(os.path.abspath(path))}?mode=ro", uri=True)
+    try:
+        return conn.execute("SELECT D_LAST FROM DESK").fetchone() == (None,)
+    except sqlite3.Error:
+        return False
+    finally:
+        conn.close()
+
+
 def main():
     words = argparse.ArgumentParser(description=__doc__, formatter_class=argparse.RawDescriptionHelpFormatter)
     words.add_argument("journal", metavar="JOURNAL")
@@ -82,12 +100,17 @@ def main():
     desk = desk_client.Http(given.port, patience=60) if given.port else desk_client.File(given.db, patience=60, new=given.new)
     now = [lambda: given.at] if given.at is not None else []
     try:
+        is_new = given.new and is_blank(given.db)
+        if not is_new:
+            mark.require(desk, given.db or f"the desk on port {given.port}")
         with desk_client.Client(given.journal, desk, *now) as client:
             client.resume()
+            if is_new and client.reply(mark.TAXID, 1) is None:
+                client.send(mark.TAXID, mark.rows())
             book(Sender(client))
     except (desk_client.ClientError, OSError) as error:
         print(f"client: {error}", file=sys.stderr)
-        return 1
+        return getattr(error, "status", 1)
     return 0
 
 

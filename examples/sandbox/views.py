@@ -1,24 +1,30 @@
 #!/usr/bin/env python3
-"""Asks a desk for views over HTTP, and prints each as a table.
+"""Asks a desk to practise with for views over HTTP, and prints each as a table.
 
-    ./brk serve --port 8123 --at 1709251200000 --streams 9 &
-    python3 examples/views.py 8123
-    python3 examples/views.py 8123 status 100
+    brk batch --db box.db --at 1709251200000 < examples/sandbox/mark.csv
+    test -s box.db && brk serve --port 8199 --db box.db --at 1709251200000 --streams 9 &
+    python3 examples/sandbox/views.py 8199 --book-day
+    python3 examples/sandbox/views.py 8199 status 100
 
-Without a view it first books the rows of examples/day.csv, each under its key, so that a second run books nothing, and then asks for
-all eleven views. It sends a result under the id that the reply to its order has. With a view it asks for that alone. docs/formats/queries.md explains the views and their numbers.
+Without a view it asks for all eleven. It books nothing but with --book-day: then it first sends the rows of examples/day.csv, each under
+its key, so that a second run books nothing, and a result under the id that the reply to its order has. docs/formats/queries.md explains
+the views and their numbers.
+
+The desk has to have the mark of a sandbox (mark.py of this folder). Exit status: 0 if all was asked for, 1 if something could not be,
+2 if the arguments are wrong, 4 if the desk has no mark: nothing is sent then.
 """
 
+import argparse
 import csv
-import pathlib
 import shlex
 import sys
 
 sys.dont_write_bytecode = True
 
+import mark  # noqa: E402
 import desk_client  # noqa: E402
 
-DAY = pathlib.Path(__file__).resolve().parent / "day.csv"
+DAY = desk_client.HERE / "day.csv"
 
 HEADS = {
     "customer": ["ACCOUNT", "BALANCE", "HOLDINGS"],
@@ -48,7 +54,7 @@ def send(desk, target, texts):
     """The reply to a request: its word, and what it tells."""
     word, told = desk.post(target, texts)
     if word == "error":
-        sys.exit(f"views: {target}: {told}")
+        raise desk_client.NotSent(f"{target}: {told}")
     return word, told
 
 
@@ -60,7 +66,9 @@ def book(desk):
     counts, trades = {"ok": 0, "again": 0, "no": 0}, []
     for number, row in enumerate(rows, start=1):
         if row[0] == "result":
-            row[1] = trades[int(row[1]) - 1] or sys.exit(f"row {number}: its order was refused")
+            row[1] = trades[int(row[1]) - 1]
+            if not row[1]:
+                raise desk_client.NotSent(f"row {number}: its order was refused")
         word, told = send(desk, f"/rows/{header[1]}/{number}", row)
         if row[0] == "order":
             trades.append("" if word == "no" else told[1])
@@ -84,21 +92,30 @@ def show(desk, view, arguments):
         print("  nothing")
 
 
+def arguments():
+    words = argparse.ArgumentParser(description=__doc__, formatter_class=argparse.RawDescriptionHelpFormatter)
+    words.add_argument("port", metavar="PORT", type=int)
+    words.add_argument("view", metavar="VIEW", nargs="*", help="the view to ask for, with its arguments; all eleven without it")
+    words.add_argument("--book-day", action="store_true", help="first book examples/day.csv")
+    return words.parse_args()
+
+
 def main():
-    port = int(sys.argv[1]) if len(sys.argv) > 1 else 8123
-    desk = desk_client.Http(port, patience=5)
+    given = arguments()
+    desk = desk_client.Http(given.port, patience=5)
     try:
-        if len(sys.argv) > 2:
-            show(desk, sys.argv[2], sys.argv[3:])
-        else:
+        mark.require(desk, f"the desk on port {given.port}")
+        if given.book_day:
             book(desk)
-            for view, *arguments in QUERIES:
-                show(desk, view, arguments)
+        for view, *texts in [given.view] if given.view else QUERIES:
+            show(desk, view, texts)
     except desk_client.ClientError as error:
-        sys.exit(f"views: {error}")
+        print(f"views: {error}", file=sys.stderr)
+        return error.status
     finally:
         desk.close()
+    return 0
 
 
 if __name__ == "__main__":
-    main()
+    sys.exit(main())
