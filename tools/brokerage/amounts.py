@@ -6,8 +6,10 @@ import re
 MOST_MONEY = 10**17  # cents, either way
 MOST_PRICE = 9_999_999  # cents
 MOST_CHARGE = 1_000_000  # cents
-MOST_RATE = 10_000  # hundredths of a percent: of a commission
-MOST_TAX_RATE = 100_000  # thousandths of a percent
+WHOLE_RATE = 10_000  # 100 % of a commission rate, in hundredths of a percent
+WHOLE_TAX_RATE = 100_000  # 100 % of a tax rate, in thousandths of a percent
+MOST_RATE = WHOLE_RATE
+MOST_TAX_RATE = WHOLE_TAX_RATE  # of one rate, and of a customer's sum
 MOST_STAMP = 253_402_300_799_999  # milliseconds since 1970-01-01 UTC
 DAY = 86_400_000  # milliseconds
 MOST_DAY = MOST_STAMP // DAY  # 9999-12-31, in days since 1970-01-01
@@ -23,12 +25,12 @@ def half_up(n, d):
 
 
 def commission(rate, quantity, price):
-    return half_up(rate * quantity * price, MOST_RATE)
+    return half_up(rate * quantity * price, WHOLE_RATE)
 
 
 def tax(gain, rates):
     """Returns the tax of a gain, rounded once for a trade. A loss has none."""
-    return half_up(gain * rates, MOST_TAX_RATE) if gain > 0 else 0
+    return half_up(gain * rates, WHOLE_TAX_RATE) if gain > 0 else 0
 
 
 def stamp_after(last, moment):

@@ -73,7 +73,8 @@ def stamps_are_past(rows):
 
 def bands_overlap(rows):
     bands = sorted(rows["COMMISSION_RATE"])
-    return any(band[:3] == other[:3] and other[3] <= band[4] for band, other in zip(bands, bands[1:]))
+    return any(band[:3] == other[:3] and other[3] <= band[4]
+               for band, other in zip(bands, bands[1:]))
 
 
 def words_have_form(base, rows, cash):
@@ -146,7 +147,7 @@ def audit_rows(rows, schema):
 
 
 def audit(conn):
-    """Returns the first condition that a database fails, or None, and its rows if it has a schema."""
+    """Returns the first condition that a database fails, or None, and its rows if they are read."""
     schema = schema_of(conn)
     if schema is None:
         return "schema", None

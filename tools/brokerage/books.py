@@ -81,7 +81,8 @@ class Books:
     def holdings(self, account):
         """Returns the value of an account's holdings at last prices."""
         held = self.summaries.get(account, {})
-        return sum(quantity * self.base.last_trades[symbol].price for symbol, quantity in held.items())
+        return sum(quantity * self.base.last_trades[symbol].price
+                   for symbol, quantity in held.items())
 
     def requests(self):
         """Returns the pending trades."""

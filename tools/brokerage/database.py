@@ -55,7 +55,7 @@ def is_defined(conn, table):
 
 
 def schema_of(conn):
-    """Returns the schema whose tables a database has and of whose later ones it has none, or None."""
+    """Returns the schema of a database, or None if it lacks tables or has one of a later schema."""
     if not is_defined(conn, TABLES["DESK"]):
         return None
     desks = conn.execute("SELECT D_ID, D_SCHEMA FROM DESK").fetchall()

@@ -1,7 +1,7 @@
 """Random days as transcripts.
 
 A day has a setting, batches of which one is sent again, a stream, queries, statements, the tables
-and the audit. The day of an older schema begins with a database of that schema, which is adopted."""
+and the audit. The day of an older schema begins with its database, which is adopted."""
 
 import json
 import pathlib

@@ -29,7 +29,7 @@ class Desk:
 
     @classmethod
     def adopt(cls, conn):
-        """Returns the desk of a database that passes its audit; an older schema has the same base."""
+        """Returns the desk of a database that passes its audit, whichever schema it has."""
         word, rows = audit(conn)
         if word:
             raise Damaged(word)

@@ -92,7 +92,7 @@ trade_type = one_of(TYPES, Refusal.BadType)
 
 
 def read_all(forms, texts):
-    """Returns the values of fields, a form for each. If several are refused, the first by order is raised."""
+    """Returns the values of fields, or raises the first refusal by order. Each field has a form."""
     require(len(forms) == len(texts), Refusal.BadText)
     values, refusals = [], []
     for form, text in zip(forms, texts):

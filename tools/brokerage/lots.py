@@ -12,7 +12,7 @@ class Lot(NamedTuple):
 
 
 class Closing(NamedTuple):
-    """The lots that a trade changes, as (lot, before, after), and the values of the closed shares."""
+    """The lots that a trade changes, as (lot, before, after), and the closed shares' values."""
     changes: List[Tuple[int, int, int]]
     buy_value: int
     sell_value: int

@@ -22,8 +22,8 @@ REFUSED = 1 / 3  # of all rows
 ASTRAY = 2 / 3  # of the rows to be refused; the others are malformed
 UNKNOWN = 1 / 2  # of the keys in a row that goes astray
 MOST_TRIES = 8
-NAMES = ("Bo", "Lee", "Ann", "Acme", "A, B & Co", 'The "Old" House', "Zoë", "a|b\\", "Q shares of R",
-         "An X Lee", "n" * 60)
+NAMES = ("Bo", "Lee", "Ann", "Acme", "A, B & Co", 'The "Old" House', "Zoë", "a|b\\",
+         "Q shares of R", "An X Lee", "n" * 60)
 SYMBOLS = ("ABC", "X.1", "B-2", "7", "ABCDEFGHIJKLMNO")
 EXCHANGES = ("NYSE", "AMEX")
 SECTORS = ("Tech", "Oil")
@@ -94,8 +94,9 @@ class Rows:
         return self.dice.choice(NAMES)
 
     def quantity(self):
-        most, small = LIMITS[self.schema].quantity, (1, 2, 3, 5, 10, 100, 100)
-        return str(self.dice.choice((*small, self.dice.randint(1, 400), self.dice.randint(1, most))))
+        most = self.dice.randint(1, LIMITS[self.schema].quantity)
+        some = self.dice.randint(1, 400)
+        return str(self.dice.choice((1, 2, 3, 5, 10, 100, 100, some, most)))
 
     def price(self, symbol):
         last = self.base.last_trades.get(symbol)

@@ -21,9 +21,10 @@ def statement(base, books, account, first, last):
     require(account in base.accounts, Refusal.NoAccount)
     rows = [row for row in books.cash_rows() if row.account == account]
     shown = [row for row in rows if first <= day_of(row.stamp) <= last]
-    opening = base.accounts[account].opening + sum(row.amount for row in rows if day_of(row.stamp) < first)
-    positions = [(symbol, lots) for (holder, symbol), lots in books.lots.items() if holder == account]
-    lots = [(symbol, lot) for symbol, held in sorted(positions) for lot in held]
+    earlier = sum(row.amount for row in rows if day_of(row.stamp) < first)
+    opening = base.accounts[account].opening + earlier
+    symbols = sorted(symbol for holder, symbol in books.lots if holder == account)
+    lots = [(symbol, lot) for symbol in symbols for lot in books.lots[account, symbol]]
     return "".join([
         f"Statement of account {account}\n",
         f"{base.accounts[account].name}\n",

@@ -23,7 +23,8 @@ FIELD = re.compile(b"(" + TOKEN + b"):(" + VALUE + b")" + END)
 HEAD = re.compile(b"(?:" + END + b")?(" + TOKEN + b") (" + TARGET + rb") HTTP/1\.([01])" + END
                   + b"((?:" + TOKEN + b":" + VALUE + END + b")*)" + END)
 TEXT = r'"(?:[^"\\\x00-\x1f]|\\(?:["\\/bfnrt]|u[0-9a-fA-F]{4}))*"'
-TEXTS = re.compile(r"[ \t\r\n]*\[[ \t\r\n]*(?:{0}[ \t\r\n]*(?:,[ \t\r\n]*{0}[ \t\r\n]*)*)?\][ \t\r\n]*".format(TEXT))
+SPACE = r"[ \t\r\n]*"
+TEXTS = re.compile(rf"{SPACE}\[{SPACE}(?:{TEXT}{SPACE}(?:,{SPACE}{TEXT}{SPACE})*)?\]{SPACE}")
 
 OK = "200 OK", None
 BAD_REQUEST = "400 Bad Request", "bad request"

@@ -23,8 +23,8 @@ COLUMNS = {
     "LAST_TRADE": "*LT_S_SYMB:symbol>SECURITY LT_DTS:stamp LT_PRICE:price LT_VOL:total",
     "CHARGE": "*CH_TT_ID:type *CH_C_TIER:tier CH_CHRG:charge",
     "COMMISSION_RATE":
-        "*CR_C_TIER:tier *CR_TT_ID:type *CR_EX_ID:exchange *CR_FROM_QTY:quantity CR_TO_QTY:quantity "
-        "CR_RATE:rate",
+        "*CR_C_TIER:tier *CR_TT_ID:type *CR_EX_ID:exchange *CR_FROM_QTY:quantity "
+        "CR_TO_QTY:quantity CR_RATE:rate",
     "TAXRATE": "*TX_ID:id TX_NAME:name TX_RATE:taxrate",
     "CUSTOMER_TAXRATE": "*CX_C_ID:id>CUSTOMER *CX_TX_ID:id>TAXRATE",
     "TRADE":

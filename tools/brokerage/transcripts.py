@@ -27,7 +27,8 @@ LEFT_OUT = {
     "explain": "explanations, which the rules do not know",
 }
 # what a mistake in a transcript raises here
-MISTAKES = (sqlite3.Error, OSError, ArithmeticError, AttributeError, LookupError, TypeError, ValueError)
+MISTAKES = (sqlite3.Error, OSError, ArithmeticError, AttributeError, LookupError, TypeError,
+            ValueError)
 SURROGATES = 0xdc00  # a byte that is no UTF-8 is the character of this and its value
 
 
