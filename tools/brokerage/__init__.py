@@ -28,7 +28,7 @@ Desk(base) is the desk of a base that a script makes of records itself, such as 
     tables       rows of a base, and back             database    tables in sqlite3
     audit        the conditions of the audit          desk        the calls above
     transcripts  transcripts, worked out again        days        random days
-    random_rows  their rows
+    random_rows  their rows                           figures     figures that need no desk
 """
 
 from .desk import Damaged, Desk

@@ -154,11 +154,11 @@ def order(base, books, asked):
     return act
 
 
-def triggered(trade, price):
-    """Returns whether a last price submits a pending trade."""
-    if trade.type == "TLS":
-        return trade.bid <= price
-    return trade.type in ("TSL", "TLB") and trade.bid >= price
+def triggered(kind, bid, price):
+    """Returns whether a last price submits a pending trade of a type."""
+    if kind == "TLS":
+        return bid <= price
+    return kind in ("TSL", "TLB") and bid >= price
 
 
 def advance(base, trade, stamp, status):
@@ -181,7 +181,7 @@ def feed(base, books, entries):
             volume = base.last_trades[symbol].volume + quantity
             base.last_trades[symbol] = LastTrade(stamp, price, volume)
             for trade in sorted(books.requests(), key=lambda trade: trade.ident):
-                if trade.symbol == symbol and triggered(trade, price):
+                if trade.symbol == symbol and triggered(trade.type, trade.bid, price):
                     advance(base, trade, stamp, "SBMT")
                     submitted.append(str(trade.ident))
         return submitted

@@ -11,6 +11,7 @@ from typing import List, NamedTuple
 from .amounts import MOST_STAMP, parse_whole
 from .audit import audit
 from .desk import Damaged, Desk
+from .figures import figure
 from .printed import printed
 from .records import SCHEMA
 from .refusals import Refused
@@ -19,11 +20,13 @@ from .tables import tables_of
 ESCAPE = re.compile(r"\\(\\|r|x[0-9a-fA-F]{2})".encode())
 OPEN_END = re.compile(rb"(?<!\\)(?:\\\\)*\\$")
 ESCAPED = re.compile("[\\\\\x00-\x1f\x7f\udc80-\udcff]")
-WITH_TEXTS = ("ask", "batch", "http", "print", "sql")
+WITH_TEXTS = ("ask", "batch", "figures", "http", "print", "sql")
 # the commands of transcripts that are not worked out, and why
 LEFT_OUT = {
     "$": "the program's files and exit statuses",
+    "jobs": "the program's arguments",
     "test": "tests in Rattle",
+    "tests": "tests in Rattle",
     "explain": "explanations, which the rules do not know",
 }
 # what a mistake in a transcript raises here
@@ -163,10 +166,13 @@ class Replay:
     def do_statements(self, first, last, customer=None):
         return lines_of(self.desk.statements(first, last, customer))
 
-    def do_tables(self):
+    def do_tables(self, *names):
         rows = self.desk.tables()
-        return [f"{table.name} {record(row)}"
-                for table in tables_of(SCHEMA) for row in rows[table.name]]
+        chosen = [table.name for table in tables_of(SCHEMA) if not names or table.name in names]
+        return [f"{name} {record(row)}" for name in chosen for row in rows[name]]
+
+    def do_figures(self, name, *, texts):
+        return [figure(name, text) for text in plain(texts)]
 
     def do_sql(self, *, texts):
         conn, self.desk = self.database(), None
