@@ -1,7 +1,7 @@
 """Random days as transcripts.
 
-A day has a setting, batches of which one is sent again, a stream, queries, statements, the tables
-and the audit. The day of an older schema begins with its database, which is adopted."""
+A day has a setting, batches of which one is sent again, a stream, queries, statements, the tables,
+the audit, and changes by another program. The day of an older schema begins with its database."""
 
 import json
 import pathlib
@@ -13,10 +13,12 @@ from .forms import QUERIES
 from .printed import csv_line
 from .random_rows import FIRST, NAMES, SECTORS, SETTING, TRADING, Rows, opening_rows
 from .records import SCHEMA
-from .tables import tables_of
+from .tables import TABLES, tables_of
 from .transcripts import Command, Replay, input_line, input_lines
 
 AT_THE_END = 1 / 4  # of the days reach the end of the clock
+CHANGES = 12  # by another program
+FREE_MARKS = {"": (), "?": (None,)}  # columns that another program may change, with a value more
 REQUESTS = 6  # of a stream
 OTHER_REQUESTS = (("/nope", "[]"), ("/rows", "{}"), ("/ask/customer", '["x"]'), ("/rows/W/0", "[]"),
                   ("/ask/submitted", "[]"))
@@ -98,6 +100,26 @@ class Day:
         last = first + self.dice.randint(-1, 9)
         self.do(f"statement {account} {day_text(first)} {day_text(last)}")
 
+    def change(self, rows):
+        """Adds a change of one value by another program, its audit, and the same change back."""
+        table, column = self.dice.choice([
+            (table, column) for table in TABLES.values() if rows[table.name]
+            for column in table.columns if column.mark in FREE_MARKS and not column.names])
+        place, row = table.names().index(column.name), self.dice.choice(rows[table.name])
+        news = [other[place] for other in self.dice.choices(rows[table.name], k=3)]
+        number = 0 if column.type == "TEXT" else row[place] or 0
+        near = ("x", "") if column.type == "TEXT" else (number + 1, number - 1, 0)
+        news += [*near, *FREE_MARKS[column.mark]]
+        new = self.dice.choice([value for value in news if value != row[place]])
+        where = " AND ".join(f"{name} = {literal(value)}" for name, value in zip(table.key, row))
+
+        def update(value):
+            text = f"UPDATE {table.name} SET {column.name} = {literal(value)} WHERE {where}"
+            self.do("sql", [input_line(text)])
+        update(new)
+        self.do("audit")
+        update(row[place])
+
     def older(self, size):
         """Adds the database of a desk of an older schema, and its adoption."""
         desk = self.replay.desk = Desk()
@@ -150,5 +172,9 @@ def day(seed, schema=SCHEMA, size=40):
     it.statement()
     it.do("tables")
     it.do("audit")
+    it.note("Changes by another program, each with its audit and undone.")
+    rows = it.replay.desk.tables()
+    for _ in range(CHANGES):
+        it.change(rows)
     it.do("adopt")
     return "".join(line + "\n" for line in it.lines).encode()
