@@ -1,6 +1,6 @@
 """Figures that need no desk: each input line of the command `figures` has one.
 
-The rules have the arithmetic; the forms of the lines are those of crates/brk_tests_cases/README.md."""
+The rules have the arithmetic, and crates/brk_tests_cases/README.md the forms of the lines."""
 
 from .amounts import (MOST_DAY, cents_text, commission, day_of, day_text, half_up, parse_cents,
                       parse_day, parse_whole, stamp_after, tax)
