@@ -307,6 +307,8 @@ class Handler(http.server.BaseHTTPRequestHandler):
     protocol_version = "HTTP/1.1"
     server_version, sys_version = "desk_page", ""
     timeout = 60
+    # head and body leave at once: in two writes each reply would wait 40 ms for an acknowledgement
+    wbufsize, disable_nagle_algorithm = -1, True
 
     def log_message(self, *_):
         """Prints nothing for a request."""
