@@ -161,29 +161,29 @@ def kept_rows(trial):
                 wanted.append(1000 + len(wanted))
                 keys.append(stop_at(trial, between, step, how, str(wanted[-1])))
         trial.tell("all keys differ, of tabs and of programs that were started again", len(set(keys)), len(wanted))
-        tabs(trial, between)
+        tabs(trial)
         wanted.append(2000)
-        other_desks(trial, between)
-        refused(trial, between)
+        other_desks(trial)
+        refused(trial)
     finally:
         between.stop()
     booked = trial.desk.rows("SELECT T_QTY FROM TRADE WHERE T_ID > ? ORDER BY T_ID", first)
     trial.tell("each row was booked once", [qty for (qty,) in booked], wanted)
 
 
-def tabs(trial, between):
-    """A line goes from all tabs when its reply has come in one."""
+def tabs(trial):
+    """A row that is under way in one tab is sent again in another one."""
     tab = trial.tab
     fill_order(trial, qty="2000")
     tab.wait("document.querySelector('#send-order')")
-    between.hold("after the commit")
+    tab.evaluate(HOLDS_FETCH)
     tab.click("#send-order")
-    between.server.held.wait(SECONDS)
-    other = trial.browser.open(f"{trial.program.address}#/orders")
+    tab.wait("Object.keys(localStorage).length === 1")
+    trial.tell("a row that is under way is in no line beside its form", lines(trial), [])
+    trial.show("orders")
+    trial.tell("it is in a line once its form was left", len(lines(trial)), 1)
+    other = trial.browser.open(f"{trial.program.address}#/customer")
     other.wait("document.querySelector('#kept [data-key]')")
-    between.let_go()
-    tab.wait("document.querySelector('#order .problem')")
-    trial.tell("the form whose row got no reply stays, and says so", "It is not known if this was booked." in trial.told("order"))
     other.click("#kept button")
     other.wait("document.querySelector('#kept .success')")
     tab.wait("!document.querySelector('#kept [data-key]')")
@@ -191,7 +191,7 @@ def tabs(trial, between):
     other.close()
 
 
-def other_desks(trial, between):
+def other_desks(trial):
     """A row that the browser kept is sent to no other desk at the same address."""
     kept = {"key": ["PAGE-20240301-000000-000000-000000", "1"], "row": ["cancel", "1"], "desk": "/other/desk.db", "since": 1709251200000}
     trial.tab.evaluate(f"localStorage.setItem('row {'/'.join(kept['key'])}', {json.dumps(json.dumps(kept))})")
@@ -203,7 +203,7 @@ def other_desks(trial, between):
     trial.load("customer")
 
 
-def refused(trial, between):
+def refused(trial):
     """A refused row is kept no longer."""
     tab = trial.tab
     trial.show("market")
