@@ -107,9 +107,9 @@ window.addEventListener("hashchange", () => {
   }
   show();
 });
-watchKept(document.getElementById("kept"));
 document.getElementById("skip").addEventListener("click", (event) => {
   event.preventDefault();
   (main.querySelector("h1") ?? main).focus();
 });
 show();
+watchKept(document.getElementById("kept"));
