@@ -4,13 +4,15 @@ import os
 import pathlib
 import re
 import signal
+import subprocess
+import sys
 import time
 
 import desk_client
 from books import LAST_TRADE
 from derived import shown_derivation, wanted_derivation
 from forms import fill_order
-from harness import plain, Program, Served
+from harness import PAGE, plain, Program, SECONDS, Served
 
 # a row is booked when the page begins to read trades
 BOOKS_MEANWHILE = """(() => {
@@ -169,12 +171,24 @@ def other_desk(trial, views, page_port):
         ({row[3] for row in tab.table("#posted")}, len(tab.texts(".plot"))),
         ({""}, 0),
     )
+    held(trial)
     goes_away(trial, served)
     program.stop()
     served.stop()
     trades = trial.desk.rows("SELECT T_ID, T_QTY FROM TRADE WHERE T_ID > ?", LAST_TRADE + 1)
     trial.tell("an order that was sent while the desk was away is booked once", trades, [(LAST_TRADE + 2, 7)])
     trial.tell("the file passes an audit at the end", trial.desk.run("audit")[:2], (0, "ok\n"))
+
+
+def held(trial):
+    """A page with --db over a file that another program has."""
+    words = ["--db", trial.desk.path, "--page", "0", "--brk", trial.desk.brk]
+    done = subprocess.run([sys.executable, PAGE, *words], capture_output=True, text=True, timeout=SECONDS)
+    trial.tell(
+        "over a file that a service has the page does not start, and says what to do",
+        (done.returncode, "start the page with --port" in done.stderr),
+        (1, True),
+    )
 
 
 def goes_away(trial, served):

@@ -55,7 +55,9 @@ def customers(trial, views):
     )
     trial.show("customer/999")
     trial.tell(
-        "an unknown customer is told in words", "This customer does not exist." in " ".join(tab.texts(".problem"))
+        "an unknown customer is told in words, and nothing is said to be read",
+        ("This customer does not exist." in " ".join(tab.texts(".problem")), tab.texts(".read")),
+        (True, []),
     )
 
 
