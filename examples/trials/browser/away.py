@@ -4,14 +4,31 @@ import os
 import pathlib
 import re
 import signal
+import subprocess
+import sys
 import time
 
 import desk_client
 from books import LAST_TRADE
 from derived import shown_derivation, wanted_derivation
 from forms import fill_order
-from harness import plain, Program, Served
+from harness import PAGE, plain, Program, SECONDS, Served
 
+# a row is booked when the page begins to read trades
+BOOKS_MEANWHILE = """(() => {
+    const own = window.fetch;
+    const headers = { "X-Page-Token": document.querySelector("meta[name=page-token]").content };
+    const post = (target, texts) =>
+        own(target, { method: "POST", headers, body: JSON.stringify(texts) }).then((reply) => reply.json());
+    window.fetch = async (target, given) => {
+        if (target === "/ask/accounttrades") {
+            window.fetch = own;
+            const { key } = await post("/key", []);
+            window.booked = await post(`/rows/${key.join("/")}`, ["result", "18", "25.00"]);
+        }
+        return own(target, given);
+    };
+})()"""
 HIDDEN = ("Tax status", "Rates now", "Band now", "One day from", "Opening", "Broker")
 
 
@@ -52,6 +69,43 @@ def streams(trial):
         os.kill(child, signal.SIGKILL)
     trial.show("account/100")
     trial.tell("a desk that was killed is started again", plain(tab.table("#posted")[-1][2]), "12.34")
+
+
+def booked_meanwhile(trial):
+    """What is booked while an account is read, and after the file was read."""
+    tab = trial.tab
+    trial.show("customer")
+    tab.evaluate(BOOKS_MEANWHILE)
+    trial.show("account/100")
+    rows = tab.table("#posted")
+    trial.tell(
+        "a result that comes while an account is read is no deposit, and its balance is that of the account",
+        (tab.evaluate("Object.keys(window.booked)"), tab.texts(".warning"), rows[-1][1], rows[-1][3] in tab.texts("#facts dd")),
+        (["ok"], [], "18", True),
+    )
+    time.sleep(2)
+    desk = desk_client.Http(trial.program.desk_port, patience=0)
+    words = [desk.post("/rows", row)[0] for row in (["deposit", "100", "1.00"], ["account", "130", "11", "1", "New", "0", "0.00"])]
+    desk.close()
+    trial.show("account/100")
+    trial.tell(
+        "after a deposit that the file lacks, no balance after the file was read is shown but the one of now",
+        (words, "Since then 1.00 was deposited or withdrawn" in " ".join(tab.texts(".warning")), tab.table("#posted")[-1][3]),
+        (["ok", "ok"], True, ""),
+    )
+    trial.show("trade/18/100")
+    trial.tell(
+        "nor is the balance before or after such a trade",
+        [tab.texts(f"tr[data-line='{label}'] td")[0] for label in ("Balance before", "Balance after")],
+        ["not in the views", "not in the views"],
+    )
+    trial.show("account/130")
+    told = " ".join(tab.texts(".note"))
+    trial.tell(
+        "an account that came after the file was read is told as such",
+        ("The file had no such account when it was read." in told, "Start the page with --db" in told, len(tab.texts("#read-file"))),
+        (True, False, 1),
+    )
 
 
 def program_away(trial):
@@ -117,12 +171,24 @@ def other_desk(trial, views, page_port):
         ({row[3] for row in tab.table("#posted")}, len(tab.texts(".plot"))),
         ({""}, 0),
     )
+    held(trial)
     goes_away(trial, served)
     program.stop()
     served.stop()
     trades = trial.desk.rows("SELECT T_ID, T_QTY FROM TRADE WHERE T_ID > ?", LAST_TRADE + 1)
     trial.tell("an order that was sent while the desk was away is booked once", trades, [(LAST_TRADE + 2, 7)])
     trial.tell("the file passes an audit at the end", trial.desk.run("audit")[:2], (0, "ok\n"))
+
+
+def held(trial):
+    """A page with --db over a file that another program has."""
+    words = ["--db", trial.desk.path, "--page", "0", "--brk", trial.desk.brk]
+    done = subprocess.run([sys.executable, PAGE, *words], capture_output=True, text=True, timeout=SECONDS)
+    trial.tell(
+        "over a file that a service has the page does not start, and says what to do",
+        (done.returncode, "start the page with --port" in done.stderr),
+        (1, True),
+    )
 
 
 def goes_away(trial, served):
@@ -134,7 +200,7 @@ def goes_away(trial, served):
     tab.wait("document.querySelector('#order .problem')")
     told = trial.told("order")
     locked = tab.evaluate(
-        "[...document.querySelectorAll('#order input, #order select, #order .estimate')].every((each) => each.disabled)"
+        "[...document.querySelectorAll('#order input, #order select, #order [type=submit]')].every((each) => each.disabled)"
     )
     trial.tell(
         "an order whose outcome is not known says so, and is locked",

@@ -11,6 +11,8 @@ DAY = 86_400_000
 SCRIPT = "<script>document.title='taken'</script>"
 IMAGE = "<img src=x onerror=\"document.title='taken'\">"
 ENTITY = "</table>&lt;b&gt; \"A\" 'B'"
+# more brokers than a query names, before Bo by name
+OTHERS = [f"Al {n}" for n in range(10, 30)]
 ORDER = "cash,fifo,Ann,Lee,T10"
 LEE, SCR = ["Ann", "Lee", "T10"], [IMAGE, SCRIPT, "T11"]
 WORKED = [
@@ -30,6 +32,7 @@ WORKED = [
 # a second customer with hostile names, three tax statuses, deposits, the settlement day
 SECOND = [
     ["broker", "2", ENTITY],
+    *[["broker", str(n), name] for n, name in enumerate(OTHERS, 3)],
     ["customer", "11", "2", "T11", SCRIPT, IMAGE],
     ["account", "101", "10", "1", "Side", "0", "-50.25"],
     ["account", "110", "11", "2", IMAGE, "2", "1234567.89"],

@@ -16,7 +16,7 @@ import struct
 import subprocess
 import time
 
-SECONDS = 30
+SECONDS = 180
 SWITCHES = [
     "--headless=new",
     "--remote-debugging-port=0",

@@ -77,6 +77,8 @@ def order_form(trial, views):
         "Assets of the account now": assets,
     }
     trial.tell("the estimate as brk ask", {name: shown.get(name) for name in wanted}, wanted)
+    trial.tell("the order is in words above its estimate", "Market-Buy of 10 ABC for account 100, by cash" in trial.told("order"))
+    narrow(trial)
     tab.click("#send-order", times=2)
     tab.wait("document.querySelector('#order .success')")
     told = trial.told("order")
@@ -112,6 +114,23 @@ def order_form(trial, views):
         trial.tell("a double click books one order", trades, [(LAST_TRADE + 1, 10)])
 
 
+def narrow(trial):
+    """At 360 pixels each amount of the estimate is in sight, without scrolling."""
+    trial.tab.resize(360)
+    hidden = trial.tab.evaluate(
+        """(() => {
+        const frame = document.querySelector("#estimate").closest(".scroll");
+        const right = frame.getBoundingClientRect().right;
+        return [...document.querySelectorAll("#estimate td.number")]
+            .filter((cell) => cell.getBoundingClientRect().right > right || cell.scrollWidth > cell.clientWidth)
+            .map((cell) => cell.textContent);
+    })()"""
+    )
+    trial.tell("at 360 pixels the estimate's amounts are in sight", (hidden, len(trial.tab.table("#estimate"))), ([], 9))
+    trial.picture("estimate-360")
+    trial.tab.resize(1200)
+
+
 def post(trial, target, texts):
     """The JSON that a script of the page gets for a request."""
     return trial.tab.evaluate(
@@ -122,17 +141,64 @@ def post(trial, target, texts):
     )
 
 
+def show_step(trial, form, fields):
+    """Fills a form of the market in, sends it by Enter in its last field, and waits for the row in words."""
+    trial.fill(form, **fields)
+    trial.tab.press("Enter")
+    trial.tab.wait(f"document.querySelector('#{form} .step')")
+    return " ".join(trial.tab.texts(f"#{form} .step"))
+
+
+def confirmed(trial):
+    """The row in words comes before it is booked, and no key books it from a field."""
+    tab = trial.tab
+    for form, fields, parts, far in (
+        (
+            "tick",
+            {"symbol": "ABC", "qty": "100", "price": "79.00"},
+            ["100 shares of ABC were traded at 79.00.", "Last price: 9.40.", "Each pending order of ABC"],
+            "79.00 is 740.4 % above the last price.",
+        ),
+        (
+            "result",
+            {"trade": "64", "price": "2.35"},
+            ["trade 64, Limit-Buy of 21 XYZ", "was executed as a whole at 2.35", "Price asked: 24.00.", "Last price: 23.00."],
+            "2.35 is 89.8 % below the last price.",
+        ),
+        (
+            "cancel",
+            {"trade": "14"},
+            ["trade 14, Limit-Sell of 10 ABC", "for account 100 of Ann Lee", "pending", "Price asked: 12.50.", "Last price: 9.40."],
+            None,
+        ),
+    ):
+        trial.show("market")
+        told = show_step(trial, form, fields)
+        trial.tell(f"a {form} is shown in words, with the price asked and the last price", [part for part in parts if part not in told], [])
+        trial.tell(f"a {form} whose price is far from the last is marked", tab.texts(f"#{form} .step .warning"), [far] if far else [])
+        for _ in range(2):
+            tab.press("Enter")
+        tab.evaluate(f"document.querySelector('#{form} input').focus()")
+        tab.press("Enter")
+        tab.wait(f"document.querySelector('#{form} .step')")
+        trial.tell(f"a {form} is not booked by Enter", ("Nothing is booked yet." in trial.told(form), len(tab.texts(f"#{form} .success"))), (True, 0))
+        trial.fill(form, **{list(fields)[-1]: "1"})
+        trial.tell(f"a change of a field takes the words of a {form} away", tab.texts(f"#{form} .step"), [])
+
+
 def market(trial):
     """A tick, a result and a cancel; each once, and each refusal in words."""
     tab = trial.tab
     trial.load("market")
+    confirmed(trial)
+    trial.show("market")
     for form, fields, words in (
         ("tick", {"symbol": "ABC", "price": "7.90", "qty": "100"}, "It submitted trade 15."),
         ("result", {"trade": "15", "price": "7.85"}, "It completed trade 15: commission 1.57, tax "),
         ("cancel", {"trade": "14"}, "It canceled trade 14."),
     ):
-        trial.fill(form, **fields)
-        tab.click(f"#{form} button[type=submit]", times=2)
+        show_step(trial, form, fields)
+        tab.click(f"#{form} .main", times=2)
         tab.wait(f"document.querySelector('#{form} .success')")
         trial.tell(f"a {form}, by a double click", words in trial.told(form))
     for form, fields, words in (
@@ -144,7 +210,10 @@ def market(trial):
     ):
         trial.show("market")
         trial.send(form, **fields)
-        tab.wait(f"document.querySelector('#{form} .problem')")
+        tab.wait(f"document.querySelector('#{form} :is(.problem, .step)')")
+        if not tab.texts(f"#{form} .problem"):
+            tab.click(f"#{form} .main")
+            tab.wait(f"document.querySelector('#{form} .problem')")
         trial.tell(f"a {form} that is refused is told in words: {words}", words in trial.told(form))
     with trial.stopped():
         wanted = [(14, "CNCL", None), (15, "CMPT", 785)]

@@ -17,7 +17,7 @@ import desk_books
 from cases import Cases, TOP, free_port
 
 PAGE = TOP / "examples" / "page" / "desk_page.py"
-SECONDS = 30
+SECONDS = 180
 
 
 def listening(port):

@@ -3,7 +3,7 @@
 import json
 
 import desk_books
-from books import CUT, ENTITY
+from books import CUT, ENTITY, OTHERS
 from harness import moment, plain
 
 
@@ -55,7 +55,9 @@ def customers(trial, views):
     )
     trial.show("customer/999")
     trial.tell(
-        "an unknown customer is told in words", "This customer does not exist." in " ".join(tab.texts(".problem"))
+        "an unknown customer is told in words, and nothing is said to be read",
+        ("This customer does not exist." in " ".join(tab.texts(".problem")), tab.texts(".read")),
+        (True, []),
     )
 
 
@@ -184,12 +186,14 @@ def volumes(trial, views):
         trial.tab.evaluate(
             "[document.querySelector('[name=brokers]').value, document.querySelector('[name=sectors]').value]"
         ),
-        ["\n".join(sorted([ENTITY, "Bo"])), "Food & <b>Drink</b>\nTech"],
+        ["\n".join(sorted([ENTITY, *OTHERS, "Bo"])), "Food & <b>Drink</b>\nTech"],
     )
     trial.tab.click("#find-volume button[type=submit]")
     trial.tab.wait("document.querySelector('#volumes')")
     rows = [[row[0], row[1], row[2], plain(row[3])] for row in trial.tab.table("#volumes")]
-    trial.tell("volumes by sector as brk ask", rows, views["volumes",])
+    trial.tell("volumes by sector, of more brokers than a query names, as brk ask", rows, views["volumes",])
+    total = desk_books.amount_text(sum(int(row[3].replace(".", "")) for row in views["volumes",]))
+    trial.tell("the total of all volumes", plain(trial.tab.texts("#volumes tfoot td")[2]), total)
 
 
 def lookup_row(trade):
