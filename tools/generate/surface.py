@@ -1,6 +1,6 @@
 #!/usr/bin/env python3
 """Writes crates/brk_tests_surface_rules/public_items.txt: what the `pub use` lines of the crates that callers use export, with the public methods,
-fields and variants of the types.
+fields and variants of the types; and what tests import from parts of these crates since none of them exports it.
 
     python3 tools/generate/surface.py
 
@@ -14,6 +14,9 @@ import sys
 LIST = 'crates/brk_tests_surface_rules/public_items.txt'
 HEAD = """\
 # Written by tools/generate/surface.py: what callers may use of each crate: types with their fields, variants and methods; functions; constants
+"""
+HEAD_OF_PARTS = """\
+# What tests import from a part, since none of these crates exports it:
 """
 CRATES = 'brk_money brk_ref brk_lots brk_trade brk_view brk_audit brk_tables brk_store brk_desk brk_import brk_report brk_http'.split()
 TESTS = 'brk_tests'
@@ -164,8 +167,27 @@ def items(tree):
                     yield f'{crate}::{name}::{member}', found[0], name, member
 
 
+def exported(tree):
+    """The paths under which the items that callers use are defined, each with the crate that exports it."""
+    return {item: crate for crate in CRATES for item in tree.sources[crate][f'crates/{crate}/src/lib.rt'].exported.values()}
+
+
+def imports_by_tests(tree):
+    """Yields each import by a crate of tests from another crate than those that callers use: its crate, its source and the item."""
+    for crate in (name for name in tree.uses if name.startswith(TESTS)):
+        for place, source in tree.sources[crate].items():
+            yield from ((crate, place, item) for item in sorted(source.imported) if item.partition('::')[0] not in CRATES)
+
+
+def imported_past(tree):
+    """What tests import from the parts of the crates that callers use, and none of these exports."""
+    parts, known = tuple(f'{crate}_' for crate in CRATES), exported(tree)
+    return sorted({item for _, _, item in imports_by_tests(tree) if item.startswith(parts) and item not in known})
+
+
 def written(tree):
-    return HEAD + ''.join(f'{path}\n' for path, *_ in items(tree))
+    parts = HEAD_OF_PARTS + ''.join(f'# {item}\n' for item in imported_past(tree))
+    return HEAD + ''.join(f'{path}\n' for path, *_ in items(tree)) + parts
 
 
 def unused(tree):
@@ -188,14 +210,10 @@ def unreached_tests(tree):
 
 def imports_of_parts(tree):
     """The imports by tests of an item from a part of the crate that exports it, though they stand on that crate."""
-    exported = {}
-    for crate in CRATES:
-        exported.update({item: crate for item in tree.sources[crate][f'crates/{crate}/src/lib.rt'].exported.values()})
-    for crate in (name for name in tree.uses if name.startswith(TESTS)):
-        for place, source in tree.sources[crate].items():
-            for item in sorted(source.imported):
-                if item.partition('::')[0] not in CRATES and exported.get(item) in tree.uses[crate]:
-                    yield f'{place}: imports {item}, which {exported[item]} exports'
+    known = exported(tree)
+    for crate, place, item in imports_by_tests(tree):
+        if known.get(item) in tree.uses[crate]:
+            yield f'{place}: imports {item}, which {known[item]} exports'
 
 
 def faults(top):
