@@ -158,12 +158,32 @@ def day_of(stamp):
     return stamp // DAY_MS
 
 
+def date_of(stamp):
+    return day_text(day_of(stamp))
+
+
 def commodity_of(symbol, currency):
     """Returns the name of a security's shares: its symbol, or `X-SYMBOL-X` if beancount reads the
     symbol as something else, if it is the currency, or if it has the form `X-SYMBOL-X` itself."""
     is_name = re.fullmatch(r"[A-Z][A-Z0-9.-]*[A-Z0-9]", symbol) and symbol not in WORDS
     is_free = symbol != currency and not re.fullmatch(r"X-.*-X", symbol)
     return symbol if is_name and is_free else f"X-{symbol}-X"
+
+
+class Journal:
+    """A journal of books in a currency. Each form of journal has its own openings, trades and movements."""
+
+    def __init__(self, books, currency):
+        self.books, self.currency = books, currency
+
+    def money(self, cents):
+        return f"{amount_text(cents)} {self.currency}"
+
+    def transactions(self):
+        """Yields the head and the postings of each transaction."""
+        yield from self.openings()
+        for entry in self.books.entries:
+            yield self.trade(entry) if isinstance(entry, Trade) else self.movement(entry)
 
 
 def run(program, write):

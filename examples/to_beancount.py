@@ -45,21 +45,11 @@ import sys
 sys.dont_write_bytecode = True
 
 import desk_books  # noqa: E402
-from desk_books import amount_text, day_of, day_text  # noqa: E402
+from desk_books import amount_text, date_of, day_of, day_text  # noqa: E402
 
 
-def date_of(stamp):
-    return day_text(day_of(stamp))
-
-
-class Journal:
-    """The names of a journal: its currency, and the accounts of a desk."""
-
-    def __init__(self, books, currency):
-        self.books, self.currency = books, currency
-
-    def money(self, cents):
-        return f"{amount_text(cents)} {self.currency}"
+class Journal(desk_books.Journal):
+    """The names of a journal: the accounts of a desk."""
 
     def commodity(self, symbol):
         return desk_books.commodity_of(symbol, self.currency)
@@ -116,12 +106,6 @@ class Journal:
         for broker in self.books.brokers:
             total = f"{amount_text(broker.commissions)} ~ 0 {self.currency}"
             yield f"Expenses:Commissions:{broker.id}", total
-
-    def transactions(self):
-        """Yields the first lines and the postings of each transaction."""
-        yield from self.openings()
-        for entry in self.books.entries:
-            yield self.trade(entry) if isinstance(entry, desk_books.Trade) else self.movement(entry)
 
 
 def declarations(journal, accounts):

@@ -40,21 +40,11 @@ import sys
 sys.dont_write_bytecode = True
 
 import desk_books  # noqa: E402
-from desk_books import amount_text, day_of, day_text  # noqa: E402
+from desk_books import date_of, day_text  # noqa: E402
 
 
-def date_of(stamp):
-    return day_text(day_of(stamp))
-
-
-class Journal:
-    """The names of a journal: its currency, and the accounts of a desk."""
-
-    def __init__(self, books, currency):
-        self.books, self.currency = books, currency
-
-    def money(self, cents):
-        return f"{amount_text(cents)} {self.currency}"
+class Journal(desk_books.Journal):
+    """The names of a journal: the accounts of a desk."""
 
     def shares(self, qty, symbol):
         return f'{qty} "{desk_books.commodity_of(symbol, self.currency)}"'
@@ -120,9 +110,7 @@ class Journal:
 
     def transactions(self):
         """Yields the first line and the postings of each transaction."""
-        yield from self.openings()
-        for entry in self.books.entries:
-            yield self.trade(entry) if isinstance(entry, desk_books.Trade) else self.movement(entry)
+        yield from super().transactions()
         yield f"{date_of(self.books.last_stamp)} Assertions", list(self.assertions())
 
 
