@@ -4,6 +4,7 @@ A trial prints a line `left out: REASON` for each part that this machine cannot 
 with 1 if a case failed, and with 77 and only its line `left out: REASON` if it can run nothing. tools/release reads these."""
 
 import argparse
+import contextlib
 import importlib.machinery
 import importlib.util
 import itertools
@@ -11,8 +12,10 @@ import os
 import pathlib
 import shutil
 import socket
+import sqlite3
 import subprocess
 import sys
+import time
 import traceback
 
 TOP = pathlib.Path(__file__).resolve().parents[2]
@@ -80,6 +83,36 @@ def is_listening(port):
         if len(fields) > 3 and fields[1] == wanted and fields[3] == "0A":
             return True
     return False
+
+
+def today():
+    return time.strftime("%Y-%m-%d", time.gmtime())
+
+
+def asked(file, sql, way="mode=ro"):
+    """The rows of a query on a file and its log, which no program holds; with `immutable=1` the log is not read, and no file is left beside it."""
+    with contextlib.closing(sqlite3.connect(f"file:{file}?{way}", uri=True)) as conn:
+        return conn.execute(sql).fetchall()
+
+
+def changed(file, sql):
+    """Executes statements on a file, as another program would."""
+    with contextlib.closing(sqlite3.connect(file)) as conn:
+        conn.executescript(sql)
+
+
+def tables_of(file):
+    """All rows of all tables of such a file."""
+    names = sorted(name for (name,) in asked(file, "SELECT name FROM sqlite_schema WHERE type = 'table'"))
+    return {name: sorted(asked(file, f"SELECT * FROM {name}"), key=repr) for name in names}
+
+
+def copied(file, target):
+    """Copies such a file, with its log."""
+    for end in ("", "-wal"):
+        if os.path.exists(f"{file}{end}"):
+            shutil.copy(f"{file}{end}", f"{target}{end}")
+    return target
 
 
 def batch_of(name, rows):
