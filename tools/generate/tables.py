@@ -996,10 +996,6 @@ def whole_name(d):
 # the reads of whole tables
 STATEMENTS['brk_tables_scan/proofs'] = [(select, whole_name(d), d[0], [], [(c, False) for c in key_columns(d)]) for d in DATA]
 
-def cell_at(d, c, row):
-    """How a row shows a column"""
-    return next(shown for name, _, shown, _ in d[7] if name == c).replace('r.', f'{row}.')
-
 def whole():
     """What the read of each whole table shows of it"""
     out = f"""-- Written by tools/generate/tables.py: the result of the read of each whole table.
@@ -1048,7 +1044,6 @@ ROW_READS = {'desk_row': 'desk_rows', 'band': 'commission_rate_rows', 'history':
              'cash': 'cash_transaction_rows', 'move': 'cash_move_rows', 'rule': 'settle_rule_rows'}
 
 WHICHES = ', '.join(d[2] for d in DATA)
-CELLS = ', '.join(d[0] + '_cells' for d in DATA)
 SAME_REFERENCE = 'ensures same_reference { tx.new.conn.ghost_name ≡ tx.old.conn.ghost_name }'
 
 def groups():
@@ -1095,10 +1090,6 @@ def records_of(spec):
     trades = [d[0] for d in DATA].index('trade')
     tables = DATA[:trades] if spec == 'Records' else DATA[trades:]
     return [d for d in tables if d[0] not in VALUES]
-
-def all_of(words):
-    """The words in a row, the last after 'and'"""
-    return f'{", ".join(words[:-1])} and {words[-1]}'
 
 def group_function(verb, word):
     """The function that reads or decodes the raw rows of a group"""
@@ -1163,8 +1154,6 @@ use std::alloc::Global;
 """
     out += ''.join(read_whole(d) for d in DATA) + ''.join(read_later_table(d) for d in DATA if d[0] in LATER)
     save('crates/brk_tables_scan/src/rows.rt', out)
-
-BY_SCHEMA = ('Owner', 'Later')
 
 def reading(d):
     """The code that reads a whole table into raw rows"""
