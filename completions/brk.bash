@@ -1,4 +1,3 @@
-# Written by tools/generate/help_pages from crates/brk_cli_args/src/words.rt and notes.rt. Do not edit it.
 # Completion of brk for bash 4 or later.
 
 # Shows what a value is when the shell lists what there is, and completes nothing: the two texts

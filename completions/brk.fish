@@ -1,4 +1,3 @@
-# Written by tools/generate/help_pages from crates/brk_cli_args/src/words.rt and notes.rt. Do not edit it.
 # Completion of brk for fish 3 or later.
 
 # Whether no word follows brk yet.

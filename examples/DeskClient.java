@@ -3,12 +3,12 @@
 //     java examples/DeskClient.java JOURNAL (--port P | --db FILE) [--at MS] [--patience S] [--new] < batch.csv
 //     java examples/DeskClient.java JOURNAL (--port P | --db FILE) [--patience S] --resume
 //
-// It is the command and the journal of examples/desk_client.py, whose head says what holds of both: rows are in the journal, on
-// the disk, before they are sent, and replies before they are returned; a desk that is away is waited for; a row that was refused
-// is not sent again unless `correct` or `again` asks for it; a name that another sender used is found. BRK names the program for
-// --db; without it `brk` on PATH is taken. In a program:
+// It has the journal of examples/desk_client.py, and this part of its command; the head of that script says what holds of both: rows
+// are in the journal, on the disk, before they are sent, and replies before they are returned; only a batch makes a journal; a desk
+// that is away is waited for; a row that was refused is not sent again unless `correct` or `again` asks for it; a name that another
+// sender used is found. BRK names the program for --db; without it `brk` on PATH is taken. In a program:
 //
-//     try (var client = new DeskClient(Path.of("sent.journal"), new DeskClient.Http(8123, null))) {
+//     try (var client = new DeskClient(Path.of("sent.journal"), new DeskClient.Http(8199, null))) {
 //         client.resume();
 //         var reply = client.send("DAY-1", List.of(DeskClient.row("deposit", "ACCOUNT=100", "AMOUNT=" + DeskClient.amount(10_000)))).get(0);
 //     }
@@ -455,9 +455,14 @@ public final class DeskClient implements AutoCloseable {
         final Map<String, TreeSet<Long>> open = new LinkedHashMap<>();
         private final FileChannel file;
 
-        Journal(Path path) throws IOException, ClientException {
+        Journal(Path path, boolean makes) throws IOException, ClientException {
             boolean isNew = !Files.exists(path);
-            var options = Set.of(StandardOpenOption.CREATE, StandardOpenOption.READ, StandardOpenOption.WRITE);
+            if (isNew && !makes) {
+                throw new ClientException("no journal: " + path + " does not exist");
+            }
+            var options = makes
+                ? Set.of(StandardOpenOption.CREATE, StandardOpenOption.READ, StandardOpenOption.WRITE)
+                : Set.of(StandardOpenOption.READ, StandardOpenOption.WRITE);
             file = FileChannel.open(path, options, PosixFilePermissions.asFileAttribute(PosixFilePermissions.fromString("rw-------")));
             try {
                 if (file.tryLock() == null) {
@@ -890,7 +895,12 @@ public final class DeskClient implements AutoCloseable {
 
     /** `now` is the clock reading with which CommandLine sends rows; `brk serve` has a clock of its own. */
     public DeskClient(Path journal, Desk desk, LongSupplier now) throws IOException, ClientException {
-        this.journal = new Journal(journal);
+        this(journal, desk, now, true);
+    }
+
+    /** Without `makes` the journal has to exist. */
+    public DeskClient(Path journal, Desk desk, LongSupplier now, boolean makes) throws IOException, ClientException {
+        this.journal = new Journal(journal, makes);
         this.desk = desk;
         this.now = now;
     }
@@ -1033,7 +1043,7 @@ public final class DeskClient implements AutoCloseable {
             ? new Http(Integer.parseInt(options.get("--port")), patience)
             : new CommandLine(Path.of(options.get("--db")), patience, options.containsKey("--new"));
         LongSupplier now = options.containsKey("--at") ? () -> Long.parseLong(options.get("--at")) : System::currentTimeMillis;
-        try (var client = new DeskClient(Path.of(words[0]), desk, now)) {
+        try (var client = new DeskClient(Path.of(words[0]), desk, now, !options.containsKey("--resume"))) {
             var out = new StringBuilder();
             if (options.containsKey("--resume")) {
                 client.resume().forEach((key, reply) -> out.append(key).append(',').append(reply).append('\n'));
@@ -1054,7 +1064,7 @@ public final class DeskClient implements AutoCloseable {
         }
         String name = records.get(0).get(1);
         if (client.journal.batches.containsKey(name)) {
-            throw new ClientException("the journal has a batch " + name + ": take a name that was never used, or --resume");
+            throw new ClientException("the journal has a batch " + name + ": its rows were stored before, and --resume sends those that have no reply");
         }
         List<Reply> replies = client.send(name, records.subList(1, count + 1));
         for (int at = 0; at < count; at++) {

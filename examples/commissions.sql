@@ -4,7 +4,7 @@
 --     sqlite3 -header -csv copy.db < examples/commissions.sql
 --
 -- TRADE is the id and STATUS its status. VALUE is the quantity times the price of the completion, or
--- times the price that was asked for while the trade is not completed, in cents. RATE is that of the
+-- times the requested price while the trade is not completed, in cents. RATE is that of the
 -- band of the customer's tier, the type, the exchange and the quantity, in hundredths of a percent.
 -- COMMISSION is by docs/NUMBERS.md, and RECORDED that of the trade (T_COMM); CHARGE is that of the type
 -- and the tier, and CHARGED that of the trade (T_CHRG); all in cents. Bands, charges and tiers never

@@ -77,24 +77,26 @@ Broker = collections.namedtuple("Broker", "id commissions")
 Price = collections.namedtuple("Price", "stamp symbol price")
 
 
-@contextlib.contextmanager
-def copied(path):
-    """Opens a copy of a desk's file, with what its log has, and deletes it at the end. Raises an
-    error of sqlite3 if another program has the file, or if the user may not write its folder."""
-    with tempfile.TemporaryDirectory(prefix="desk-books-") as folder:
-        name = f"file:{urllib.parse.quote(os.path.abspath(path))}?mode=ro"
-        source = sqlite3.connect(name, uri=True, timeout=0, isolation_level=None)
-        copy = sqlite3.connect(os.path.join(folder, "copy.db"))
-        try:
+def copy_file(path, target):
+    """Copies a desk's file, with what its log has, to a new file. Raises an error of sqlite3 if another
+    program has it, or if the user may not write its folder."""
+    name = f"file:{urllib.parse.quote(os.path.abspath(path))}?mode=ro"
+    with contextlib.closing(sqlite3.connect(name, uri=True, timeout=0, isolation_level=None)) as source:
+        with contextlib.closing(sqlite3.connect(target)) as copy:
             # this fails if the file is locked, where a backup would wait; and it keeps brk out
             source.execute("BEGIN")
             source.execute("SELECT count(*) FROM sqlite_master").fetchall()
             source.backup(copy)
-            source.close()
-            yield copy
-        finally:
-            source.close()
-            copy.close()
+
+
+@contextlib.contextmanager
+def copied(path):
+    """Opens a copy of a desk's file, and deletes it at the end. Raises the errors of `copy_file`."""
+    with tempfile.TemporaryDirectory(prefix="desk-books-") as folder:
+        copy = os.path.join(folder, "copy.db")
+        copy_file(path, copy)
+        with contextlib.closing(sqlite3.connect(copy)) as conn:
+            yield conn
 
 
 class Books:

@@ -3,11 +3,16 @@
 
     desk_client.py JOURNAL (--port P | --db FILE) [--at MS] [--patience S] < batch.csv
     desk_client.py JOURNAL (--port P | --db FILE) [--patience S] --resume
+    desk_client.py JOURNAL|FOLDER --verify COPY
+    desk_client.py --records JOURNAL|FOLDER ..
+    desk_client.py --restore DESK RECORDS
 
 As a command it sends the rows of a batch, whose name the journal has not, and prints their lines as `brk batch` does. With --resume
-it sends the rows of the journal that have no reply, and prints each as BATCH,N,WORD,FIELD...
+it sends the rows of the journal that have no reply, and prints each as BATCH,N,WORD,FIELD... The other three are those of
+examples/desk_records.py: they compare what was sent with a copy of a desk, and send it again to a desk that was restored from an
+older copy. FOLDER is one of examples/send. No journal is made but by the first batch.
 
-    client = desk_client.Client("sent.journal", desk_client.Http(8123))
+    client = desk_client.Client("sent.journal", desk_client.Http(8199))
     reply, = client.send("DAY-1", [desk_client.row("deposit", ACCOUNT=100, AMOUNT=desk_client.amount(10_000))])
 
 - **Rows are in the journal, on the disk, before they are sent**, and each reply is there before `send` returns it. A program that
@@ -30,7 +35,10 @@ one may be begun, with other names of batches. Its lines are JSON lists of texts
     ["rows", BATCH, N, MS, [FIELD, ..], ..]        stored at the clock reading MS, from row N on
     ["reply", BATCH, N, "ok", FIELD, ..]
 
-examples/DeskClient.java has the same command and the same journal. It needs Python 3.9. docs/formats/http.md ("Retry of a row") and
+Exit status: 0 if all was done, 1 if it could not be done, 2 if the arguments are wrong, 4 if nothing was sent because of a list of
+records, 5 if a row differs from its record or is missing.
+
+examples/DeskClient.java sends and resumes with the same journal. It needs Python 3.9. docs/formats/http.md ("Retry of a row") and
 docs/formats/batches.md ("Retry of a batch") have the rules.
 """
 
@@ -66,7 +74,9 @@ NAMES_A_TRADE = ("result", "cancel", "upname")
 
 
 class ClientError(Exception):
-    """What ends a call of this module."""
+    """What ends a call of this module. `status` is the exit status of a command that it ends."""
+
+    status = 1
 
 
 class NoReply(ClientError):
@@ -242,38 +252,25 @@ class Reply:
 # ---- the journal
 
 
-class Journal:
-    """The rows that were to be sent, and their replies, in a file that only this process has. What `rows` and `reply` store is on the
-    disk when they return. A last line without its line feed was never acted on, and is cut off."""
+class Stored:
+    """The rows and the replies of a journal."""
 
     def __init__(self, path):
         self.path = os.fspath(path)
-        is_new = not os.path.exists(self.path)
-        self.file = os.fdopen(os.open(self.path, os.O_RDWR | os.O_CREAT | os.O_CLOEXEC, 0o600), "r+b")
-        try:
-            # the first lock keeps this program's own clients out, the second one those in Java too
-            fcntl.flock(self.file, fcntl.LOCK_EX | fcntl.LOCK_NB)
-            fcntl.lockf(self.file, fcntl.LOCK_EX | fcntl.LOCK_NB)
-        except OSError:
-            self.file.close()
-            raise ClientError(f"another program has the journal: {self.path}") from None
-        if is_new:
-            folder = os.open(os.path.dirname(os.path.abspath(self.path)), os.O_RDONLY)
-            os.fsync(folder)
-            os.close(folder)
         # by batch: each row by its number, from 1 on, the replies by theirs, the clock reading of the last rows, and the
         # numbers of the rows that have no reply
         self.batches, self.replies, self.readings, self.open = {}, {}, {}, {}
-        content = self.file.read()
+
+    def take_all(self, content):
+        """Takes the entries of the whole lines of a journal; returns the length of these lines. A last line without its line feed
+        was never acted on."""
         whole = content[: content.rfind(b"\n") + 1]
         for number, line in enumerate(whole.splitlines(), 1):
             try:
                 self.take(json.loads(line))
             except (ValueError, LookupError, TypeError, AttributeError):
                 raise ClientError(f"no journal: {self.path}: line {number}") from None
-        if len(whole) < len(content):
-            self.file.truncate(len(whole))
-        self.file.seek(len(whole))
+        return len(whole)
 
     def take(self, entry):
         """Takes an entry as it was stored."""
@@ -295,6 +292,38 @@ class Journal:
         else:
             raise ValueError(what)
 
+    def pending(self, batch):
+        """The numbers of the rows of a batch that have no reply."""
+        return sorted(self.open.get(batch, ()))
+
+
+class Journal(Stored):
+    """The rows that were to be sent, and their replies, in a file that only this process has. What `rows` and `reply` store is on the
+    disk when they return. A last line without its line feed is cut off. Without `makes` the file has to exist."""
+
+    def __init__(self, path, makes=True):
+        super().__init__(path)
+        is_new = not os.path.exists(self.path)
+        if is_new and not makes:
+            raise ClientError(f"no journal: {self.path} does not exist")
+        self.file = os.fdopen(os.open(self.path, os.O_RDWR | (os.O_CREAT if makes else 0) | os.O_CLOEXEC, 0o600), "r+b")
+        try:
+            # the first lock keeps this program's own clients out, the second one those in Java too
+            fcntl.flock(self.file, fcntl.LOCK_EX | fcntl.LOCK_NB)
+            fcntl.lockf(self.file, fcntl.LOCK_EX | fcntl.LOCK_NB)
+        except OSError:
+            self.file.close()
+            raise ClientError(f"another program has the journal: {self.path}") from None
+        if is_new:
+            folder = os.open(os.path.dirname(os.path.abspath(self.path)), os.O_RDONLY)
+            os.fsync(folder)
+            os.close(folder)
+        content = self.file.read()
+        whole = self.take_all(content)
+        if whole < len(content):
+            self.file.truncate(whole)
+        self.file.seek(whole)
+
     def append(self, entries):
         text = "".join(json.dumps(entry, ensure_ascii=False, separators=(",", ":")) + "\n" for entry in entries)
         self.file.write(text.encode())
@@ -309,10 +338,6 @@ class Journal:
     def reply(self, batch, replies):
         """Stores replies, each a number, a word and fields."""
         self.append([["reply", batch, str(number), word, *fields] for number, word, fields in replies])
-
-    def pending(self, batch):
-        """The numbers of the rows of a batch that have no reply."""
-        return sorted(self.open.get(batch, ()))
 
     def close(self):
         self.file.close()
@@ -484,10 +509,10 @@ class File:
 
 class Client:
     """Sends rows to a desk, by a journal. `now` returns the clock reading, in milliseconds since 1970-01-01 UTC, with which File
-    sends rows; `brk serve` has a clock of its own."""
+    sends rows; `brk serve` has a clock of its own. Without `makes` the journal has to exist."""
 
-    def __init__(self, journal, desk, now=lambda: time.time_ns() // 1_000_000):
-        self.journal, self.desk, self.now = Journal(journal), desk, now
+    def __init__(self, journal, desk, now=lambda: time.time_ns() // 1_000_000, makes=True):
+        self.journal, self.desk, self.now = Journal(journal, makes), desk, now
 
     def __enter__(self):
         return self
@@ -582,7 +607,7 @@ class Client:
             first = trades[-1][0][2]
 
     def submitted(self):
-        """The submitted trades: Trade, type, symbol, quantity, price asked for."""
+        """The submitted trades: Trade, type, symbol, quantity, requested price."""
         return [(Trade(record[0]), *record[1:]) for record in self.ask("submitted")]
 
 
@@ -599,39 +624,67 @@ def batch_read(text):
 
 def arguments():
     words = argparse.ArgumentParser(description=__doc__, formatter_class=argparse.RawDescriptionHelpFormatter)
-    words.add_argument("journal", metavar="JOURNAL")
+    words.add_argument("journal", metavar="JOURNAL", nargs="?")
     way = words.add_mutually_exclusive_group(required=True)
     way.add_argument("--port", type=int, metavar="P")
     way.add_argument("--db", metavar="FILE")
+    way.add_argument("--verify", metavar="COPY", help="compare the accepted rows with a copy of the desk")
+    way.add_argument("--records", nargs="+", metavar="JOURNAL|FOLDER", help="print the accepted rows of all, by their stamps")
+    way.add_argument("--restore", nargs=2, metavar=("DESK", "RECORDS"), help="send records to a desk, each at its stamp")
     words.add_argument("--at", type=int, metavar="MS", help="the clock reading, in place of the machine's")
     words.add_argument("--patience", type=int, metavar="S", help="seconds to wait for a desk that is away; for ever without it")
     words.add_argument("--new", action="store_true", help="make the desk of --db")
     words.add_argument("--resume", action="store_true", help="send what has no reply")
-    return words.parse_args()
+    given = words.parse_args()
+    if bool(given.records or given.restore) == bool(given.journal):
+        words.error("JOURNAL is needed, but with --records and --restore")
+    if not (given.port or given.db) and (given.at is not None or given.patience is not None or given.new or given.resume):
+        words.error("--at, --patience, --new and --resume need --port or --db")
+    return given
+
+
+def send_batch(client):
+    """Sends the batch of standard input, and prints its lines."""
+    counts = {"ok": 0, "again": 0, "no": 0}
+    name, rows = batch_read(sys.stdin.buffer.read().decode("utf-8-sig"))
+    if name in client.journal.batches:
+        raise ClientError(f"the journal has a batch {name}: its rows were stored before, and --resume sends those that have no reply")
+    for number, reply in enumerate(client.send(name, rows), 1):
+        print(f"{number},{reply}")
+        counts[reply.word] += 1
+    print(",".join(["end", *map(str, counts.values())]))
+
+
+def send(given):
+    """Sends a batch, or what has no reply."""
+    desk = Http(given.port, given.patience) if given.port else File(given.db, given.patience, given.new)
+    now = [lambda: given.at] if given.at is not None else []
+    with Client(given.journal, desk, *now, makes=not given.resume) as client:
+        if not given.resume:
+            send_batch(client)
+            return
+        for (batch, number), reply in client.resume().items():
+            print(f"{batch},{number},{reply}")
 
 
 def main():
     given = arguments()
-    desk = Http(given.port, given.patience) if given.port else File(given.db, given.patience, given.new)
-    counts = {"ok": 0, "again": 0, "no": 0}
     try:
-        with Client(given.journal, desk, *([lambda: given.at] if given.at is not None else [])) as client:
-            if given.resume:
-                for (batch, number), reply in client.resume().items():
-                    print(f"{batch},{number},{reply}")
-                return 0
-            name, rows = batch_read(sys.stdin.buffer.read().decode("utf-8-sig"))
-            if name in client.journal.batches:
-                raise ClientError(f"the journal has a batch {name}: take a name that was never used, or --resume")
-            for number, reply in enumerate(client.send(name, rows), 1):
-                print(f"{number},{reply}")
-                counts[reply.word] += 1
-            print(",".join(["end", *map(str, counts.values())]))
+        if given.port or given.db:
+            send(given)
+        else:
+            import desk_records
+
+            desk_records.run(given)
         return 0
     except (ClientError, OSError, TypeError, ValueError) as error:
         print(f"desk_client: {error}", file=sys.stderr)
-        return 1
+        return getattr(error, "status", 1)
 
 
 if __name__ == "__main__":
-    sys.exit(main())
+    sys.dont_write_bytecode = True
+    # the module that desk_records has too
+    import desk_client
+
+    sys.exit(desk_client.main())

@@ -4,7 +4,7 @@
 --     sqlite3 -header -csv copy.db < examples/taxes.sql
 --
 -- TRADE is the id. GAIN is the realised gain, in cents. RATES is the sum of the customer's rates
--- when the trade was completed, in hundred-thousandths. TAX is the tax by docs/NUMBERS.md, and
+-- when the trade was completed, in thousandths of a percent. TAX is the tax by docs/NUMBERS.md, and
 -- RECORDED that of the trade (T_TAX), both in cents. The stamp of a row custtax is that of its stored
 -- row (KEPT); a row that was sent over HTTP without a key counts from the beginning.
 WITH

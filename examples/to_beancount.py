@@ -7,7 +7,7 @@
 
 It takes a copy of the file and reads that, so run it while no run of brk is under way. CURRENCY, as
 in `to_beancount.py desk.db EUR`, names the currency, which is USD otherwise. It needs Python 3.9
-and examples/desk_books.py. The journal was tried with beancount 2.3.5; tools/trials/try_peers tries it.
+and examples/desk_books.py. The journal was tried with beancount 2.3.5; examples/trials/try_peers tries it.
 
 | The desk | The journal |
 |---|---|

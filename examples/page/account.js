@@ -1,26 +1,52 @@
 // An account: positions, the balance over time, open orders, last trades and statuses.
 
 import { UNKNOWN } from "./derivation.js";
-import { ask, fileAccount, readFile, Refused } from "./desk.js";
+import { ask, fileAccount, fileLists, readFile } from "./desk.js";
 import { el, field, form, link, note, problem, table } from "./dom.js";
 import { amount, cents, dayOf, moment, sum, whole } from "./money.js";
 import { accountsOf, ownerOf } from "./owners.js";
 import { balancePlot } from "./plot.js";
+import { lastPriceFor } from "./prices.js";
 import { CUT, historyOf, positionsOf, replay, STATUSES, TYPES } from "./trades.js";
 
 export function tradeLink(id, account) {
   return link(id, `#/trade/${id}/${account}`);
 }
 
+// The most times that trades are read for one balance, while rows are booked.
+const MOST_READINGS = 5;
+
+// Returns the balance and the holdings of an account, or null if its customer is not known.
+async function ownOf(account, owner) {
+  return (owner && (await accountsOf(owner.by, owner.name)).find((each) => each.account === account)) ?? null;
+}
+
+// Reads the trades of an account, and its balance before and after them, until the two are equal: then no cash moved
+// meanwhile. `isSteady` says if they were.
+async function readCash(account, owner, onCount) {
+  let own = await ownOf(account, owner);
+  let history = await historyOf(account, "0", [], onCount);
+  for (let times = 1; times <= MOST_READINGS; times += 1) {
+    const before = own;
+    own = await ownOf(account, owner);
+    if (own?.balance === before?.balance) {
+      return { own, ...history, isSteady: true };
+    }
+    const later = await historyOf(account, history.trades.at(-1)?.stamp ?? "0", history.trades, onCount);
+    history = { ...later, isCut: history.isCut || later.isCut };
+  }
+  return { own, ...history, isSteady: false };
+}
+
 // Reads what is known of an account: the names of the views, what the file says, the balance, and all trades.
 export async function readAccount(account, onCount) {
   const [[last, first, broker], ...recent] = await ask("status", account);
   const file = await fileAccount(account);
+  const isFileRead = file !== null || await fileLists() !== null;
   const owner = file ? { by: "taxid", name: file.taxid } : ownerOf(account);
-  const own = owner && (await accountsOf(owner.by, owner.name)).find((each) => each.account === account);
-  const { trades, isCut } = await historyOf(account, onCount);
+  const cash = await readCash(account, owner, onCount);
   const taxid = owner?.by === "taxid" ? owner.name : null;
-  return { account, last, first, broker, recent, file, own: own ?? null, trades, isCut, taxid, ...replay(trades) };
+  return { account, last, first, broker, recent, file, isFileRead, taxid, ...cash, ...replay(cash.trades) };
 }
 
 // Returns the balance that the account has before its first cash row: its opening, if the file was read, and otherwise
@@ -35,13 +61,21 @@ function togetherOf({ own, trades }) {
   return own ? own.balance - sum(trades.map((trade) => trade.move?.amount ?? 0n)) : null;
 }
 
-// Returns the cash of an account that neither its trades nor the file explain: movements after the file was read.
+// Returns the cash of an account that neither its trades nor the file explain: movements after the file was read, if
+// no cash moved while the trades were read.
 function unseenCash({ file, own, trades }) {
   if (!file || !own) {
     return 0n;
   }
   const moves = sum(file.moves.map((move) => cents(move[2])));
   return own.balance - cents(file.opening) - moves - sum(trades.map((trade) => trade.move?.amount ?? 0n));
+}
+
+// Whether the balance after a stamp follows from what is known: not without the file, nor after the file was read if
+// cash moved since then that no view shows.
+export function isKnownAt(known, stamp) {
+  return startOf(known) !== null
+    && (BigInt(stamp) <= BigInt(known.file.read) || (known.isSteady && unseenCash(known) === 0n));
 }
 
 // The cash rows of an account that are known, by rising stamp, each with the balance after it, or null.
@@ -63,13 +97,11 @@ function postingsOf(known) {
   let balance = startOf(known);
   return [...moved, ...paid].sort((one, other) => Number(BigInt(one.stamp) - BigInt(other.stamp))).map((row) => {
     balance = balance === null ? null : balance + row.value;
-    return { ...row, balance };
+    return { ...row, balance: isKnownAt(known, row.stamp) ? balance : null };
   });
 }
 
-const MISSING_CASH =
-  "No view shows the opening, the deposits and the withdrawals of an account. Start the page with --db"
-  + " to see them.";
+const MISSING_CASH = "No view shows the opening, the deposits and the withdrawals of an account.";
 
 // Creates a button that has the file read anew, and shows the page again.
 export function readAgain() {
@@ -89,10 +121,16 @@ export function readAgain() {
 // Says what the page does not know of an account's cash, and offers to read the file anew.
 export function cashNotes(known) {
   const unseen = unseenCash(known);
+  if (!known.isSteady) {
+    return [el("div", { class: "warning", role: "status" },
+      el("p", {}, el("strong", {}, "! "), "Cash moved while the account was read. Load the page again."))];
+  }
   if (!known.file) {
     const together = togetherOf(known);
-    return [note(`${MISSING_CASH}${together === null ? "" : ` Together they are ${amount(together)}.`}`
-      + " So no balance is shown but the one of now.")];
+    const todo = known.isFileRead ? " The file had no such account when it was read."
+      : " Start the page with --db to see them.";
+    return [note(`${MISSING_CASH}${todo}${together === null ? "" : ` Together they are ${amount(together)}.`}`
+      + " So no balance is shown but the one of now."), known.isFileRead ? readAgain() : ""];
   }
   const read =
     "Opening, deposits, withdrawals, tax rates, bands and the settlement day are those of the file, read at"
@@ -102,7 +140,8 @@ export function cashNotes(known) {
   }
   return [el("div", { class: "warning", role: "status" },
     el("p", {}, el("strong", {}, "! "),
-      `${read} Since then ${amount(unseen)} was deposited or withdrawn, which the rows below lack.`),
+      `${read} Since then ${amount(unseen)} was deposited or withdrawn, which the rows lack: so no balance after the`
+      + " file was read is shown but the one of now."),
     readAgain())];
 }
 
@@ -121,22 +160,6 @@ function summary(known) {
   return el("dl", { class: "facts", id: "facts" }, ...made);
 }
 
-// Asks for the last price of a security, by the estimate of an order of one share: no view shows it otherwise.
-async function lastPrice(known, symbol) {
-  for (const type of known.taxid ? ["TMB", "TMS"] : []) {
-    try {
-      const [[price]] = await ask(
-        "estimate", known.account, type, symbol, "1", "", "cash", "fifo", known.first, known.last, known.taxid);
-      return cents(price);
-    } catch (error) {
-      if (!(error instanceof Refused)) {
-        throw error;
-      }
-    }
-  }
-  return null;
-}
-
 const MISSING_PRICE =
   "A question mark: the last price is in no view. It is asked for by an estimate, which needs the customer's"
   + " tax id, a charge and a band.";
@@ -148,14 +171,15 @@ function agreement(worth, own) {
   }
   return worth === own.holdings
     ? "\u2713 The total worth equals the desk's holdings."
-    : "\u2715 The total worth is not the desk's holdings: a price changed meanwhile. Load the page again.";
+    : "\u2715 The total worth is not the desk's holdings: a price changed or a result came meanwhile. Load"
+      + " the page again.";
 }
 
 async function positions(known) {
   const held = positionsOf(known.open);
   const priced = [];
   for (const each of held) {
-    const price = await lastPrice(known, each.symbol);
+    const price = await lastPriceFor(each.symbol, known.taxid ? [known] : []);
     const worth = price === null ? null : price * each.shares;
     priced.push({ ...each, price, worth, gain: price === null ? null : worth - each.cost });
   }
@@ -220,9 +244,10 @@ function postedTable(known, postings) {
 function balanceSection(known) {
   const postings = postingsOf(known);
   const section = el("section", {}, el("h2", {}, "Balance over time"), ...cashNotes(known));
-  if (known.file && postings.length > 0) {
+  const plotted = postings.filter((row) => row.balance !== null);
+  if (known.file && plotted.length > 0) {
     section.append(
-      balancePlot([startPoint(known, postings), ...postings], known.file?.rule, `account ${known.account}`));
+      balancePlot([startPoint(known, plotted), ...plotted], known.file?.rule, `account ${known.account}`));
   }
   section.append(postedTable(known, postings));
   return section;

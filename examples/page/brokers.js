@@ -5,15 +5,27 @@ import { el, field, form, note, problem, table } from "./dom.js";
 import { amount, cents, sum } from "./money.js";
 import { bars, scaleOf } from "./plot.js";
 
+// The most names of a query.
+const MOST_NAMES = 20;
+
+// Returns the lines of a text, each once.
 function lines(text) {
-  return text.split("\n").map((line) => line.trim()).filter((line) => line);
+  return [...new Set(text.split("\n").map((line) => line.trim()).filter((line) => line))];
+}
+
+function groupsOf(names) {
+  const starts = [...names.keys()].filter((at) => at % MOST_NAMES === 0);
+  return starts.map((at) => names.slice(at, at + MOST_NAMES));
 }
 
 async function volumes({ brokers, sectors }, told) {
-  const names = lines(brokers);
+  const groups = groupsOf(lines(brokers));
   const found = [];
   for (const sector of lines(sectors)) {
-    const records = await ask("volume", sector, ...names);
+    const records = [];
+    for (const names of groups) {
+      records.push(...await ask("volume", sector, ...names));
+    }
     found.push(...records.map(([broker, id, volume]) => ({ sector, broker, id, volume: cents(volume) })));
   }
   const scale = scaleOf(found.map((each) => each.volume));
@@ -37,7 +49,8 @@ export async function showBrokers(main) {
     main.append(problem(error));
   }
   const fields = [
-    field("brokers", "Names of brokers", { rows: 3 }, "One on each line, at most 20."),
+    field("brokers", "Names of brokers", { rows: 3 },
+      lists ? "One on each line. These are all brokers of the file." : "One on each line."),
     field("sectors", "Sectors", { rows: 3 },
       lists ? "One on each line. These are the sectors of the file." : "One on each line. No view lists them."),
   ];
@@ -49,7 +62,7 @@ export async function showBrokers(main) {
     }
   }, "find-volume");
   if (lists) {
-    made.elements.brokers.value = lists.brokers.slice(0, 20).join("\n");
+    made.elements.brokers.value = lists.brokers.join("\n");
     made.elements.sectors.value = lists.sectors.join("\n");
   }
   main.append(made);

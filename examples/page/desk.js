@@ -12,7 +12,7 @@ export class Refused extends Error {
   }
 }
 
-// No reply came: the desk, or the program of the page, is not there.
+// No reply came: the desk, or the program of the page, is not there, or it shows another desk.
 export class Unreachable extends Error {}
 
 let token = document.querySelector("meta[name=page-token]").content;
@@ -78,15 +78,18 @@ export async function book(key, row) {
   if (told.no) {
     throw new Refused(told.no);
   }
+  if (told.error === "desk") {
+    throw new Unreachable(`This page now shows the desk ${told.desk}. Send the row from a page of its own desk.`);
+  }
   if (!told.ok && !told.again) {
     throw new Error(`The desk replied: ${told.error ?? "nothing"}.`);
   }
   return { fields: told.ok ?? told.again, wasBooked: told.again !== undefined };
 }
 
-// Returns a key that no row has: a batch's name and a number.
+// Returns a key that no row has, a batch's name and a number, and the desk for whose rows it is.
 export async function newKey() {
-  return (await send("/key", [])).key;
+  return send("/key", []);
 }
 
 // Returns what the file says of an account and no view shows; null in its place if the file was not read.

@@ -15,6 +15,7 @@ examples/desk_client.py with its tables and examples/desk_books.py. docs/PAGE.md
 import argparse
 import array
 import datetime
+import hashlib
 import hmac
 import http.server
 import json
@@ -235,9 +236,15 @@ class Reading:
         """The name, the exchange and the sector of a security, or None."""
         return self.securities.get(symbol)
 
+    def askers(self):
+        """An account of each tier, with the names of its customer: in their names the page asks for a last price."""
+        first = {account["tier"]: account for account in reversed(self.accounts.values())}
+        return [{key: account[key] for key in ("account", "first", "last", "taxid")} for account in first.values()]
+
     def lists(self):
-        """The names that a form offers."""
+        """The names that a form offers, and in whose names a price is asked for."""
         return {
+            "askers": self.askers(),
             "brokers": self.brokers,
             "sectors": sorted({row[2] for row in self.securities.values()}),
             "symbols": list(self.securities)[:MOST_SYMBOLS],
@@ -254,14 +261,17 @@ def read_file(path):
 
 
 class Page:
-    """The page: its address, its token, its keys, and the desk behind it."""
+    """The page: its address, its token, its keys, and the desk behind it. The name of a batch ends with digits of the
+    desk, so that a row which a browser kept is sent to no other desk."""
 
-    def __init__(self, relay, path):
+    def __init__(self, relay, path, port):
         self.relay, self.path = relay, path
+        self.desk = os.path.realpath(path) if path else f"port {port}"
+        self.mark = hashlib.sha256(os.fsencode(self.desk)).hexdigest()[:6]
         self.reading, self.why_not = None, "the page was started with --port"
         self.token = secrets.token_hex(16)
         moment = datetime.datetime.now(datetime.timezone.utc).strftime("%Y%m%d-%H%M%S")
-        self.batch, self.keys, self.lock = f"PAGE-{moment}-{secrets.token_hex(3)}", 0, threading.Lock()
+        self.batch, self.keys, self.lock = f"PAGE-{moment}-{secrets.token_hex(3)}-{self.mark}", 0, threading.Lock()
 
     def next_key(self):
         """A key that no row has: a form takes one, and sends its row under it until it is booked."""
@@ -287,7 +297,7 @@ class Page:
     def reply(self, target, texts):
         """The status and the JSON of a request of the page's scripts."""
         if target == "/key":
-            return 200, {"key": self.next_key()}
+            return 200, {"key": self.next_key(), "desk": self.desk}
         if target == "/read":
             if self.path is not None:
                 self.read()
@@ -296,7 +306,11 @@ class Page:
             return 200, {"file": self.reading.lists()} if self.reading else {"none": self.why_not}
         if target in FILE_READS and len(texts) == 1:
             return 200, self.of_file(target, texts[0])
-        if VIEW.fullmatch(target) or (KEY.fullmatch(target) and texts[:1] and texts[0] in ROWS):
+        if VIEW.fullmatch(target):
+            return 200, self.relay.send(target, texts)
+        if KEY.fullmatch(target) and texts[:1] and texts[0] in ROWS:
+            if not target.split("/")[2].endswith(f"-{self.mark}"):
+                return 409, {"error": "desk", "desk": self.desk}
             return 200, self.relay.send(target, texts)
         return 404, {"error": "not found"}
 
@@ -307,6 +321,8 @@ class Handler(http.server.BaseHTTPRequestHandler):
     protocol_version = "HTTP/1.1"
     server_version, sys_version = "desk_page", ""
     timeout = 60
+    # head and body leave at once: in two writes each reply would wait 40 ms for an acknowledgement
+    wbufsize, disable_nagle_algorithm = -1, True
 
     def log_message(self, *_):
         """Prints nothing for a request."""
@@ -416,7 +432,7 @@ def fail(why):
 def main():
     given = arguments()
     service = Service(given.brk, given.db) if given.db else None
-    page = Page(Relay(given.port or service.port, service), given.db)
+    page = Page(Relay(given.port or service.port, service), given.db, given.port)
     signal.signal(signal.SIGTERM, lambda *_: sys.exit(0))
     signal.signal(signal.SIGHUP, lambda *_: sys.exit(0))
     try:
@@ -433,7 +449,8 @@ def main():
     except KeyboardInterrupt:
         return 0
     except (OSError, Unreachable) as error:
-        return fail(f"{given.db or given.port}: {error}")
+        held = "; if another program has the file, as a service has, start the page with --port" if "fault: store" in str(error) else ""
+        return fail(f"{given.db or given.port}: {error}{held}")
     finally:
         if service:
             service.stop()

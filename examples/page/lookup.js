@@ -4,7 +4,7 @@ import { tradeLink } from "./account.js";
 import { ask } from "./desk.js";
 import { el, field, form, link, note, problem, table } from "./dom.js";
 import { amount, LAST_STAMP, moment, stampsOf, whole } from "./money.js";
-import { CUT, lookup, readTrades, STATUSES, TYPES } from "./trades.js";
+import { CUT, lookup, readTrades, renewed, STATUSES, TYPES } from "./trades.js";
 
 const HEADS = [
   "Trade#", "Time", "Status", "Type", "Symbol", "Shares#", "Asked#", "Price#", "Charge#", "Commission#", "Tax#",
@@ -40,7 +40,7 @@ function spanOf({ from, to }) {
 // Shows the trades of a lookup twenty at a time: a button adds the next ones, which are read ahead.
 async function showPages(told, view, name, span, caption) {
   const account = view === "accounttrades" ? name : null;
-  const trades = [];
+  let trades = [];
   let isCut = false;
   const pages = lookup(view, name, ...span, () => {
     isCut = true;
@@ -48,7 +48,7 @@ async function showPages(told, view, name, span, caption) {
   const more = el("button", { type: "button" }, "Show more");
   let ahead = await pages.next();
   const add = async () => {
-    trades.push(...(ahead.value ?? []));
+    trades = renewed(trades, ahead.value ?? []);
     ahead = await pages.next();
     told.replaceChildren(foundTable(`${caption}: ${trades.length} shown`, trades, account));
     told.append(isCut ? note(CUT) : "", ahead.done ? "" : more);

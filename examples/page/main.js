@@ -10,6 +10,7 @@ import { showMarket } from "./market.js";
 import { moment } from "./money.js";
 import { showOrder } from "./order.js";
 import { showOrders } from "./orders.js";
+import { watchKept } from "./rows.js";
 import { showTrade } from "./trade.js";
 
 const PAGES = {
@@ -65,7 +66,9 @@ async function show() {
   if (own !== shows) {
     return;
   }
-  page.append(el("p", { class: "read" }, `Read at ${moment(Date.now())} UTC.`));
+  if (!page.querySelector(":scope > .problem")) {
+    page.append(el("p", { class: "read" }, `Read at ${moment(Date.now())} UTC.`));
+  }
   page.setAttribute("aria-busy", "false");
   const heading = page.querySelector("h1");
   document.title = `${heading?.textContent ?? "Desk"} \u2013 desk`;
@@ -109,3 +112,4 @@ document.getElementById("skip").addEventListener("click", (event) => {
   (main.querySelector("h1") ?? main).focus();
 });
 show();
+watchKept(document.getElementById("kept"));

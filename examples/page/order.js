@@ -4,8 +4,9 @@ import { ask, fileAccount, fileLists, Refused } from "./desk.js";
 import { el, field, form, note, problem, table } from "./dom.js";
 import { amount, cents, whole } from "./money.js";
 import { readOwner } from "./owners.js";
-import { markField, Sending, tradeOf } from "./rows.js";
+import { isUnchanged, markField, showStep } from "./rows.js";
 import { TYPES } from "./trades.js";
+import { rowWords } from "./words.js";
 
 const MARKET = ["TMB", "TMS"];
 const SALES = ["TMS", "TSL", "TLS"];
@@ -49,11 +50,6 @@ function estimateTable(values, [price, bought, sold, tax, commission, charge, as
   return table("The estimate of this order", ["Number", "Amount#", "Note"], rows, { id: "estimate" });
 }
 
-function describe([trade, status, price], row) {
-  const state = status === "SBMT" ? "submitted: the market has it" : "pending: it waits for a tick at its price";
-  return ["It is ", tradeOf(trade, row[1]), `, ${state}, at ${amount(cents(price))}.`];
-}
-
 function inputs(account, owner, lists) {
   return [
     field("account", "Account id", { inputmode: "numeric", value: account }),
@@ -86,18 +82,11 @@ async function estimate(values, told, made) {
   try {
     const [record] = await ask("estimate", ...fieldsOf(values));
     const file = await fileAccount(values.account);
-    const sending = new Sending(made, el("div", { role: "status", "aria-live": "polite" }), describe);
-    const button = el("button", { type: "button", id: "send-order", class: "main" }, "Send this order");
-    const unsent = note("Nothing is booked yet.");
-    button.addEventListener("click", async () => {
-      unsent.remove();
-      await sending.send((latest) => ["order", ...fieldsOf(latest)]);
-      button.disabled = sending.isBooked;
-    });
-    const shown = estimateTable(values, record, file?.taxstatus ?? null);
-    told.replaceChildren(shown, unsent, button, sending.told);
-    // not to the button, which a second press of Enter would push
-    shown.querySelector(".scroll").focus();
+    const row = ["order", ...fieldsOf(values)];
+    const shown = [el("p", {}, rowWords(row)), estimateTable(values, record, file?.taxstatus ?? null)];
+    if (isUnchanged(made, values)) {
+      showStep(made, told, row, { shown, button: "Send this order", id: "send-order" });
+    }
   } catch (error) {
     told.replaceChildren(problem(error));
     if (error instanceof Refused) {
@@ -118,7 +107,6 @@ export async function showOrder(main, [account]) {
   const made = form(inputs(account, owner, lists), "Estimate", estimate, "order");
   // an estimate is of the fields as they were: a change takes it away
   made.addEventListener("input", () => made.querySelector(".told").replaceChildren());
-  made.querySelector("button[type=submit]").classList.add("estimate");
   followType(made);
   main.append(made);
 }

@@ -4,7 +4,7 @@ import { ORDER_HEADS, orderRows } from "./account.js";
 import { ask } from "./desk.js";
 import { el, field, form, link, note, problem, table } from "./dom.js";
 import { amount, cents, LAST_STAMP, whole } from "./money.js";
-import { lookup, TYPES } from "./trades.js";
+import { lookup, renewed, TYPES } from "./trades.js";
 
 async function submitted() {
   const rows = (await ask("submitted")).map(([id, type, symbol, qty, price]) => [
@@ -17,11 +17,11 @@ async function submitted() {
 
 async function pending({ account, symbol }, told) {
   const [view, name] = account ? ["accounttrades", account] : ["symboltrades", symbol];
-  const found = [];
+  let found = [];
   let count = 0;
   for await (const trades of lookup(view, name, "0", LAST_STAMP)) {
     count += trades.length;
-    found.push(...trades.filter((trade) => trade.status === "PNDG"));
+    found = renewed(found, trades).filter((trade) => trade.status === "PNDG");
     told.textContent = `Reading the trades: ${count} so far\u2026`;
   }
   const caption = `Pending orders of ${account ? `account ${account}` : symbol}`;

@@ -1,9 +1,11 @@
-// Forms that book a row. A form takes a key of the page with its first row, and sends its row under this key until it
-// is booked: so a double click, and a row that is sent again after a broken stream, are booked once.
+// Forms that book a row. A form takes a key of the page with its row, and sends the row under this key until it is
+// booked: so a double click, and a row that is sent again after a broken stream, are booked once.
 
 import { book, newKey, Refused, Unreachable } from "./desk.js";
-import { el, link, problem, success, valuesOf } from "./dom.js";
+import { el, note, problem, success, valuesOf } from "./dom.js";
+import { forget, keep, keptRows } from "./kept.js";
 import { moment } from "./money.js";
+import { replyWords, rowWords } from "./words.js";
 
 // The field of the forms that a refusal is about.
 const ABOUT = { 1: "account", 4: "symbol", 5: "trade", 6: "taxid", 7: "type", 8: "qty", 9: "price", 13: "trade" };
@@ -19,7 +21,7 @@ export function markField(form, number) {
 }
 
 function setLocked(form, isLocked) {
-  form.querySelectorAll("input, select, button.estimate").forEach((each) => {
+  form.querySelectorAll("input, select, button[type=submit]").forEach((each) => {
     each.disabled = isLocked;
   });
   if (!isLocked) {
@@ -28,25 +30,66 @@ function setLocked(form, isLocked) {
   }
 }
 
-// Sends the row of a form. While it is not known if the row was booked, its fields are locked, since another row
-// under the same key would be refused.
+// The rows that this tab is sending, by their keys, each with its form or null; and what replies to rows said.
+const underWay = new Map();
+const answers = new Map();
+
+function keyOf(kept) {
+  return kept.key.join("/");
+}
+
+function tellOnEachPage(kept, told) {
+  answers.set(keyOf(kept), told);
+  window.dispatchEvent(new Event("kept"));
+}
+
+// Sends a row, which the browser keeps until its reply has come. A refused row has changed nothing and recorded no key.
+async function sendKept(kept, form = null) {
+  underWay.set(keyOf(kept), form);
+  try {
+    keep(kept);
+    const reply = await book(kept.key, kept.row);
+    forget(kept);
+    return reply;
+  } catch (error) {
+    if (!(error instanceof Unreachable)) {
+      forget(kept);
+    }
+    throw error;
+  } finally {
+    underWay.delete(keyOf(kept));
+    window.dispatchEvent(new Event("kept"));
+  }
+}
+
+function bookedWords(kept, { fields, wasBooked }) {
+  const how = wasBooked ? "It was booked before, at" : "Booked at";
+  const when = `${how} ${moment(fields[0])} UTC under the key ${keyOf(kept)}. `;
+  return success(when, ...replyWords(kept.row, fields.slice(1)));
+}
+
+function refusedWords(kept, error) {
+  return el("div", {}, problem(error), note(`Nothing was booked. ${rowWords(kept.row)}`));
+}
+
+// Sends the row of a form, as it was shown. While it is not known if the row was booked, the fields are locked.
 export class Sending {
-  constructor(form, told, describe) {
-    Object.assign(this, { form, told, describe, key: null, row: null, isUnderWay: false, isBooked: false });
+  constructor(form, told, row) {
+    Object.assign(this, { form, told, row, kept: null, isUnderWay: false, isBooked: false });
   }
 
-  async send(rowOf) {
+  async send() {
     if (this.isUnderWay || this.isBooked) {
       return;
     }
     this.isUnderWay = true;
+    this.told.replaceChildren(note("Sending\u2026"));
+    setLocked(this.form, true);
     try {
-      this.key ??= await newKey();
-      this.row ??= rowOf(valuesOf(this.form));
-      setLocked(this.form, true);
-      const { fields, wasBooked } = await book(this.key, this.row);
+      this.kept ??= { ...await newKey(), row: this.row };
+      const reply = await sendKept(this.kept, this.form);
       this.isBooked = true;
-      this.tellBooked(fields, wasBooked);
+      this.tellBooked(reply);
     } catch (error) {
       this.tellProblem(error);
     } finally {
@@ -54,28 +97,27 @@ export class Sending {
     }
   }
 
-  tellBooked(fields, wasBooked) {
+  tellBooked(reply) {
     const again = el("button", { type: "button" }, "Start a new form");
     again.addEventListener("click", () => window.dispatchEvent(new Event("hashchange")));
-    const how = wasBooked ? "It was booked before, at" : "Booked at";
-    const when = `${how} ${moment(fields[0])} UTC under the key ${this.key.join("/")}. `;
-    this.told.replaceChildren(success(when, ...this.describe(fields.slice(1), this.row)), again);
-    this.form.querySelectorAll("button[type=submit]").forEach((button) => {
-      button.disabled = true;
-    });
-    this.told.append(again);
+    const words = bookedWords(this.kept, reply);
+    if (!this.form.isConnected) {
+      tellOnEachPage(this.kept, words);
+    }
+    this.told.replaceChildren(words, again);
     again.focus();
   }
 
   tellProblem(error) {
+    if (!this.form.isConnected && error instanceof Refused) {
+      tellOnEachPage(this.kept, refusedWords(this.kept, error));
+    }
     this.told.replaceChildren(problem(error));
-    if (error instanceof Unreachable && this.key !== null) {
+    if (error instanceof Unreachable && this.kept !== null) {
       this.told.append(el("p", {}, "It is not known if this was booked. Send it again when the desk replies: it has"
-        + ` the key ${this.key.join("/")}, and is booked once. Until then stay on this form.`));
+        + ` the key ${keyOf(this.kept)}, and is booked once. Until then it is listed above each page.`));
       return;
     }
-    // a refused row has changed nothing and recorded no key, so it may be corrected
-    this.row = null;
     setLocked(this.form, false);
     if (error instanceof Refused) {
       markField(this.form, error.number);
@@ -83,6 +125,63 @@ export class Sending {
   }
 }
 
-export function tradeOf(id, account) {
-  return link(`trade ${id}`, account ? `#/trade/${id}/${account}` : `#/trade/${id}`);
+// Shows the second step of a form: what the row says, and the button that books it. The focus goes to the words, and
+// not to the button, which a second press of Enter would push.
+export function showStep(form, told, row, { shown, button, id }) {
+  const sending = new Sending(form, el("div", { role: "status", "aria-live": "polite" }), row);
+  const books = el("button", { type: "button", id, class: "main" }, button);
+  const unsent = note("Nothing is booked yet.");
+  books.addEventListener("click", async () => {
+    unsent.remove();
+    books.disabled = true;
+    await sending.send();
+    books.disabled = sending.isBooked;
+  });
+  const step = el("div", { class: "step", tabindex: "-1" }, ...shown);
+  told.replaceChildren(step, unsent, books, sending.told);
+  step.focus();
+}
+
+// Whether the fields of a form are still as they were when it was sent.
+export function isUnchanged(form, values) {
+  return JSON.stringify(valuesOf(form)) === JSON.stringify(values);
+}
+
+// The line of a row without a reply, with what was told of it so far and the button that sends it again under its key.
+function keptLine(kept) {
+  const again = el("button", { type: "button", disabled: underWay.has(keyOf(kept)) }, "Send again");
+  const told = el("div", { role: "status", "aria-live": "polite" }, answers.get(keyOf(kept)));
+  again.addEventListener("click", async () => {
+    again.disabled = true;
+    told.replaceChildren(note("Sending\u2026"));
+    try {
+      tellOnEachPage(kept, bookedWords(kept, await sendKept(kept)));
+    } catch (error) {
+      tellOnEachPage(kept, error instanceof Unreachable ? problem(error) : refusedWords(kept, error));
+    }
+  });
+  const when = `Sent at ${moment(kept.since)} UTC under the key ${keyOf(kept)}, to the desk ${kept.desk}. `;
+  return el("div", { class: "problem", role: "alert", "data-key": keyOf(kept) },
+    el("p", {}, el("strong", {}, "\u2715 No reply came to this row. "), rowWords(kept.row)),
+    el("p", {}, when, "It is not known if it was booked. Sent again under its key it is booked once; in a new form it"
+      + " would be another row."),
+    again, told);
+}
+
+// Shows in an element, which is above each page, the rows without a reply until they have one, and what replies said
+// until another page is shown.
+export function watchKept(place) {
+  const show = () => {
+    const rows = keptRows().filter((kept) => !underWay.get(keyOf(kept))?.isConnected);
+    const lines = new Set(rows.map(keyOf));
+    const told = [...answers].filter(([key]) => !lines.has(key)).map(([, words]) => words);
+    place.replaceChildren(...told, ...rows.map(keptLine));
+  };
+  window.addEventListener("kept", show);
+  window.addEventListener("storage", show);
+  window.addEventListener("hashchange", () => {
+    answers.clear();
+    show();
+  });
+  show();
 }

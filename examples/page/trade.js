@@ -1,6 +1,6 @@
 // A trade: why each cent moved, line by line.
 
-import { cashNotes, readAccount, readAgain, startOf } from "./account.js";
+import { cashNotes, isKnownAt, readAccount, readAgain, startOf } from "./account.js";
 import { ask, fileLists, fileSecurity, fileTrade, Refused } from "./desk.js";
 import { explain, UNKNOWN } from "./derivation.js";
 import { el, field, form, keepRoles, link, note, problem, table } from "./dom.js";
@@ -88,7 +88,8 @@ function missingNote(parts) {
 async function derivation(main, known, trade) {
   const effect = known.effects.get(trade.id) ?? null;
   const { account, trades, file } = known;
-  const context = { account, trades, file, names: await namesOf(known, trade), start: startOf(known) };
+  const start = isKnownAt(known, trade.stamp) ? startOf(known) : null;
+  const context = { account, trades, file, names: await namesOf(known, trade), start };
   const parts = explain(trade, effect, context);
   main.append(el("p", { class: "headline" }, headline(trade)));
   main.append(note("Each line follows from the lines above it. Times are UTC."));

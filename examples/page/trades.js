@@ -44,14 +44,14 @@ export function readTrades(records) {
 // Yields the trades of a lookup by account or symbol, in lists of at most twenty, from the oldest on. The desk gives
 // twenty at a time; the next twenty begin at the stamp of the last one, whose trades come again. If more than twenty
 // trades share a stamp, the desk gives the first twenty, and `onCut` is called: one tick submitted them, so that none
-// of the others is completed.
+// of the others is completed. A trade whose status changes meanwhile comes again, with the new one.
 export async function* lookup(view, name, from, to, onCut = () => {}) {
-  const seen = new Set();
+  const seen = new Map();
   let start = from;
   for (;;) {
     const trades = readTrades(await ask(view, name, start, to));
-    yield trades.filter((trade) => !seen.has(trade.id));
-    trades.forEach((trade) => seen.add(trade.id));
+    yield trades.filter((trade) => seen.get(trade.id) !== trade.stamp);
+    trades.forEach((trade) => seen.set(trade.id, trade.stamp));
     if (trades.length < PAGE) {
       return;
     }
@@ -66,16 +66,22 @@ export async function* lookup(view, name, from, to, onCut = () => {}) {
 export const CUT = "More than twenty trades share one stamp, as after a tick. The desk gives the first twenty of them;"
   + " the others are submitted orders.";
 
-// Returns all trades of an account, oldest first, and whether some were cut off; `onCount` is told how many were
-// read.
-export async function historyOf(account, onCount = () => {}) {
-  const trades = [];
+// Returns trades with others after them, which replace those with the same ids.
+export function renewed(trades, others) {
+  const ids = new Set(others.map((trade) => trade.id));
+  return [...trades.filter((trade) => !ids.has(trade.id)), ...others];
+}
+
+// Returns the trades of an account from a stamp on, after those that were read before, oldest first, and whether some
+// were cut off; `onCount` is told how many were read.
+export async function historyOf(account, from, before, onCount = () => {}) {
+  let trades = before;
   let isCut = false;
-  const pages = lookup("accounttrades", account, "0", LAST_STAMP, () => {
+  const pages = lookup("accounttrades", account, from, LAST_STAMP, () => {
     isCut = true;
   });
   for await (const some of pages) {
-    trades.push(...some);
+    trades = renewed(trades, some);
     onCount(trades.length);
   }
   return { trades, isCut };

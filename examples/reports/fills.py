@@ -3,6 +3,7 @@
 
     python3 examples/reports/fills.py FILE FILLS NAME > results.csv
         [--columns trade=HEAD,symbol=HEAD,side=HEAD,shares=HEAD,price=HEAD] [--within PERCENT] [--skip]
+        [--round MOVEMENTS]
     examples/send FILE FOLDER results.csv
 
 FILLS is CSV in UTF-8 with heads, among them `trade`, `symbol`, `side`, `shares` and `price`, or other
@@ -11,7 +12,11 @@ was sent as the client's reference. `side` is buy, b or 1, or sell, s, 2, sell s
 capital letters. NAME is the name of the batch.
 
 Several fills of one order are one result if they total its shares: the price is their mean, which has
-to be a whole number of cents. The rows are in the order in which the orders were filled. Each order is
+to be a whole number of cents. With --round it need not be: the result is at the nearest cent, and the
+file MOVEMENTS, which is new, gets a second batch, NAME-CASH, with the deposit or the withdrawal that
+makes the cash right, commission and tax counted. Send it once all results are accepted, and never
+without them. What stays wrong is printed on standard error: the gain, the commission, the tax, the cost
+of a lot. A trade on margin has no movement; its difference is printed. rounding.py has the rules. The rows are in the order in which the orders were filled. Each order is
 compared with the desk: it is submitted, and the fills have its security, its side and its shares; a
 limit is kept. With --within the price is not further from the last price than PERCENT of it.
 
@@ -25,19 +30,22 @@ arguments are wrong; 3 if standard output failed. FILE is read as by examples/re
 import argparse
 import csv
 import io
+import os
 import re
 import sys
 
 sys.dont_write_bytecode = True
 
 import reporting  # noqa: E402
-from reporting import DIFFERS, DONE, Refused, amount_text  # noqa: E402
+from reporting import DIFFERS, DONE, OutputFailed, Refused, amount_text  # noqa: E402
+from rounding import Rounding, movement_of, nearest_cent, told  # noqa: E402
 
 COLUMNS = ("trade", "symbol", "side", "shares", "price")
 SIDES = {"buy": "buy", "b": "buy", "1": "buy", "sell": "sell", "s": "sell", "2": "sell", "sell short": "sell", "5": "sell"}
 BUYS = ("TMB", "TLB")
 NAME = re.compile(r"[A-Za-z0-9_-][A-Za-z0-9._-]{0,39}")
 MOST_PRICE = 9_999_999
+CASH = "-CASH"
 STATUSES = {"PNDG": "pending: no tick has reached its price", "CMPT": "completed", "CNCL": "canceled"}
 ORDER = """
     SELECT T_ST_ID, T_TT_ID, T_S_SYMB, T_QTY, T_BID_PRICE, LT_PRICE
@@ -74,8 +82,8 @@ def fill_of(line, fields):
     return fields["symbol"], side, shares, price
 
 
-def row_of(conn, text, lines, within):
-    """Returns the row `result` of an order, of the lines of its fills."""
+def result_of(conn, text, lines, within, is_rounded):
+    """Returns the trade of an order, the price of its result in cents, and its fills, of their lines."""
     fills = [fill_of(line, fields) for line, fields in lines]
     try:
         trade = reporting.id_of_text(text)
@@ -95,14 +103,44 @@ def row_of(conn, text, lines, within):
     if filled != qty:
         raise Wrong(f"{filled} of {qty} shares are filled; a result completes all of them")
     value = sum(shares * price for _, _, shares, price in fills)
-    price = value // qty
-    if price * qty != value:
-        raise Wrong(f"the mean price of {amount_text(value)} for {qty} shares is no whole number of cents")
-    if (kind == "TLB" and price > asked) or (kind == "TLS" and price < asked):
-        raise Wrong(f"{amount_text(price)} is worse than the limit of {amount_text(asked)}")
+    price = nearest_cent(value, qty)
+    if price * qty != value and not is_rounded:
+        raise Wrong(f"the mean price of {amount_text(value)} for {qty} shares is no whole number of cents: --round books the nearest cent")
+    if (kind == "TLB" and value > asked * qty) or (kind == "TLS" and value < asked * qty):
+        raise Wrong(f"{amount_text(value)} for {qty} shares is worse than the limit of {amount_text(asked)}")
     if within is not None and abs(price - last) * 100 > within * last:
         raise Wrong(f"{amount_text(price)} is further than {within} % from the last price, {amount_text(last)}")
-    return ["result", trade, amount_text(price)]
+    return trade, price, [(shares, price) for _, _, shares, price in fills]
+
+
+def rounded(conn, results):
+    """Prints each result that is not at the mean price of its fills; returns the movements that make the cash right."""
+    rounding, movements = Rounding(conn), []
+    for trade_id, price, parts in results:
+        trade, right, booked = rounding.booked(trade_id, price, parts)
+        if sum(shares * cents for shares, cents in parts) != price * trade.qty:
+            print(f"fills.py: {told(trade, price, parts, right, booked)}", file=sys.stderr)
+            movements.append(movement_of(trade, right, booked))
+    return [row for row in movements if row]
+
+
+def batch_bytes(name, rows):
+    text = io.StringIO(newline="")
+    csv.writer(text, lineterminator="\n").writerows([["batch", name], *rows, ["end", len(rows)]])
+    return text.getvalue().encode()
+
+
+def print_batches(name, rows, movements, path):
+    """Prints the batch of results, after the batch of movements is in its file, if there is one."""
+    if movements:
+        with open(path, "xb") as file:
+            file.write(batch_bytes(f"{name}{CASH}", movements))
+    try:
+        reporting.print_bytes(io.BytesIO(batch_bytes(name, rows)))
+    except OutputFailed:
+        if movements:
+            os.unlink(path)
+        raise
 
 
 def percent(text):
@@ -127,24 +165,34 @@ def main():
     words.add_argument("--columns", type=reporting.typed(lambda text: reporting.names_of(text, COLUMNS), "list of columns"), default={})
     words.add_argument("--within", type=reporting.typed(percent, "percent"), metavar="PERCENT")
     words.add_argument("--skip", action="store_true")
+    words.add_argument("--round", metavar="MOVEMENTS")
     given = words.parse_args()
-    rows, wrong = [], []
+    names = [given.name]
+    if given.round is not None:
+        names.append(f"{given.name}{CASH}")
+        if not NAME.fullmatch(names[1]):
+            words.error(f"--round: the name {names[1]} is too long")
+        if os.path.lexists(given.round):
+            raise Refused(f"it exists: {given.round}")
+    results, movements, wrong = [], [], []
     orders = fills_of(given.fills, given.columns)
     with reporting.opened(given.file) as conn:
-        if conn.execute("SELECT 1 FROM KEPT WHERE K_BATCH = ?", (given.name,)).fetchone():
-            raise Refused(f"the desk has rows of a batch {given.name}: take another name")
+        for name in names:
+            if conn.execute("SELECT 1 FROM KEPT WHERE K_BATCH = ?", (name,)).fetchone():
+                raise Refused(f"the desk has rows of a batch {name}: take another name")
         for text, lines in orders.items():
             try:
-                rows.append(row_of(conn, text, lines, given.within))
+                results.append(result_of(conn, text, lines, given.within, given.round is not None))
             except Wrong as reason:
                 wrong.append(f"trade {text}: {reason}")
-    for reason in wrong:
-        print(f"fills.py: {reason}", file=sys.stderr)
-    if not rows or (wrong and not given.skip):
-        raise Refused(f"{len(wrong)} of {len(orders)} orders have wrong fills" if wrong else f"{given.fills} has no fill")
-    text = io.StringIO(newline="")
-    csv.writer(text, lineterminator="\n").writerows([["batch", given.name], *rows, ["end", len(rows)]])
-    reporting.print_bytes(io.BytesIO(text.getvalue().encode()))
+        for reason in wrong:
+            print(f"fills.py: {reason}", file=sys.stderr)
+        if not results or (wrong and not given.skip):
+            raise Refused(f"{len(wrong)} of {len(orders)} orders have wrong fills" if wrong else f"{given.fills} has no fill")
+        if given.round is not None:
+            movements = rounded(conn, results)
+    rows = [["result", trade, amount_text(price)] for trade, price, _ in results]
+    print_batches(given.name, rows, movements, given.round)
     if wrong:
         print(f"fills.py: {len(wrong)} of {len(orders)} orders were left out", file=sys.stderr)
         return DIFFERS

@@ -1,10 +1,10 @@
 #!/usr/bin/env python3
-"""Writes examples/openapi.json, the description of the desk's requests and replies in OpenAPI 3.1, from the tables for programs in
-examples/: kinds.csv, replies.csv, views.csv, refusals.csv and statuses.csv. `.ci/run` runs it, and stops if it changed the file.
+"""Prints the description of the desk's requests and replies in OpenAPI 3.1, made of the tables for programs in examples/: kinds.csv, replies.csv,
+views.csv, refusals.csv and statuses.csv. A release has it.
 
-    tools/generate/openapi.py
+    tools/generate/openapi.py > openapi.json
 
-It prints nothing if all is well, and ends with a message at a form that it does not know. It reads no clock."""
+It ends with a message at a form that it does not know. It reads no clock."""
 
 import csv
 import json
@@ -13,7 +13,6 @@ import sys
 
 TOP = pathlib.Path(__file__).resolve().parents[2]
 EXAMPLES = TOP / "examples"
-PAGE = EXAMPLES / "openapi.json"
 TABLES = ("kinds", "replies", "views", "refusals", "statuses")
 
 WHOLE = "(0|[1-9][0-9]*)"
@@ -195,14 +194,14 @@ def main():
     if kinds != answered:
         fail(f"kinds.csv and replies.csv differ: {sorted(kinds ^ answered)}")
     description = {
-        "x-written-by": "tools/generate/openapi.py, from the tables beside this file. Do not edit it.",
+        "x-written-by": "tools/generate/openapi.py, from kinds.csv, replies.csv, views.csv, refusals.csv and statuses.csv",
         "openapi": "3.1.0",
         "info": {"title": "brk serve", "version": "schema 3", "description": NOTE},
         "servers": [{"url": "http://127.0.0.1:8123"}],
         "paths": paths(tables),
         "components": {"schemas": components(tables)},
     }
-    PAGE.write_text(json.dumps(description, indent=1) + "\n", encoding="utf-8")
+    print(json.dumps(description, indent=1))
 
 
 if __name__ == "__main__":

@@ -3,12 +3,14 @@
 which table (brk_tables), the rows of a desk's tables in code (brk_trade_rows), the definitions of the tables in code (brk_tables_definitions), the names
 of all columns, the reads of whole tables and their decoding (brk_tables_scan), that a database has the rows of one set of tables (brk_tables), the
 tables that a transcript shows (brk_tests_replay), and what each SQL text means over any schema (in the crate of the statement). Run it at the top of the
-repository after a change of the list; `.ci/run` does so first. It lays out what it wrote by `rt fmt`, so where nothing changed it leaves the tree as
-it was, and it prints nothing. With `--texts` it prints the SQL texts as well, for the Rust code. What it writes is checked like any other file."""
+repository after a change of the list; `.ci/run` does so first. It lays the files out by `rt fmt` in a folder of its own, then writes those that differ
+from what is there, and prints nothing. With `--texts` it prints the SQL texts as well, for the Rust code. What it writes is checked like any other
+file."""
 import os
 import re
 import subprocess
 import sys
+import tempfile
 import textwrap
 
 from long_lines import broken
@@ -229,8 +231,8 @@ def of_use(line, body):
 MOST_WRITTEN = 192
 LONGEST_LITERAL = 175
 
-# what stood in the files that were written, and when it was written
-BEFORE = {}
+# the files by their paths, before `rt fmt`
+WRITTEN = {}
 
 def save(path, text):
     """Writes a file without the names that its head imports and its body does without"""
@@ -242,11 +244,7 @@ def save(path, text):
     text = '\n'.join(kept) + '\n\n' + body
     if 'Written by tools/generate/tables.py' not in head:
         text = ('//!' if path.endswith('.rt') else '--') + ' Written by tools/generate/tables.py.\n' + text
-    if os.path.exists(path):
-        with open(path) as file:
-            BEFORE[path] = (file.read(), os.stat(path))
-    with open(path, 'w') as file:
-        file.write(broken(text, MOST_WRITTEN) if '/proofs/' in path else text)
+    WRITTEN[path] = broken(text, MOST_WRITTEN) if '/proofs/' in path else text
 
 def write(folder, name, what, table, body):
     save(f'crates/{folder}/{name}.antt', HEAD.format(what=what, table=shape(table)) + body)
@@ -1632,17 +1630,27 @@ pub const TABLES: [(&str, &str); {len(DATA)}] = [
 """
     save('crates/brk_tests_replay/src/table_list.rt', out)
 
-def lay_out():
-    """Lays out the crates that were written to, and gives each file that came out as it was its time again"""
-    for crate in sorted({'brk_trade_rows', 'brk_tests_replay', 'brk_tables_definitions', *(folder.split('/')[0] for folder in STATEMENTS)}):
-        done = subprocess.run(['rt', 'fmt'], cwd=f'crates/{crate}', stdout=subprocess.PIPE, stderr=subprocess.STDOUT, text=True)
+def text_of(path):
+    if not os.path.exists(path):
+        return None
+    with open(path) as file:
+        return file.read()
+
+def lay_out(top):
+    """Lays the files out in a folder, and writes those that differ from what is there"""
+    for path, text in WRITTEN.items():
+        os.makedirs(os.path.dirname(f'{top}/{path}'), exist_ok=True)
+        with open(f'{top}/{path}', 'w') as file:
+            file.write(text)
+    for crate in sorted({path.split('/')[1] for path in WRITTEN}):
+        done = subprocess.run(['rt', 'fmt'], cwd=f'{top}/crates/{crate}', stdout=subprocess.PIPE, stderr=subprocess.STDOUT, text=True)
         if done.returncode != 0:
-            sys.exit(f'tools/generate/tables.py: rt fmt in crates/{crate}:\n{done.stdout}')
-    for path, (text, times) in BEFORE.items():
-        with open(path) as file:
-            same = file.read() == text
-        if same:
-            os.utime(path, ns=(times.st_atime_ns, times.st_mtime_ns))
+            sys.exit(f'tools/generate/tables.py: rt fmt of crates/{crate}:\n{done.stdout}')
+    for path in WRITTEN:
+        text = text_of(f'{top}/{path}')
+        if text != text_of(path):
+            with open(path, 'w') as file:
+                file.write(text)
 
 if __name__ == '__main__':
     shapes()
@@ -1670,6 +1678,7 @@ if __name__ == '__main__':
     all_texts = [create_text(table) for table in DATA]
     for folder, statements in STATEMENTS.items():
         all_texts += [write_one(folder, *parts) for write_one, *parts in statements]
-    lay_out()
+    with tempfile.TemporaryDirectory() as folder:
+        lay_out(folder)
     if '--texts' in sys.argv[1:]:
         print('\n'.join(all_texts))

@@ -1,7 +1,6 @@
 """A machine of its own for `try_package` and `try_service`: a Debian with systemd in a new folder, which systemd-nspawn starts, the
 releases of a program in it, and the commands of docs/PACKAGE.md that it runs."""
 
-import argparse
 import contextlib
 import json
 import os
@@ -14,7 +13,8 @@ import sys
 import tempfile
 import time
 
-TOP = pathlib.Path(__file__).resolve().parents[2]
+from cases import BUILT, TOP, Cases, arguments, left_out, require
+
 PAGE = TOP / "docs/PACKAGE.md"
 RUN_HERE = "<!-- not run: tools/trials/try_package -->"
 # the day and the packages that the page names
@@ -44,6 +44,10 @@ while True:
 
 def fail(text):
     sys.exit(f"{pathlib.Path(sys.argv[0]).name}: {text}")
+
+
+def last_line(text):
+    return (text.strip().splitlines() or ["no message"])[-1]
 
 
 def today():
@@ -78,14 +82,14 @@ class Machine:
         done = subprocess.run(["debootstrap", "--variant=minbase", f"--include={PARTS}", suite, self.root],
                               stdout=subprocess.PIPE, stderr=subprocess.STDOUT, text=True)
         if done.returncode:
-            fail(f"debootstrap: {done.stdout[-2000:]}")
+            left_out(f"debootstrap: {last_line(done.stdout)}")
 
     def load(self):
         """Downloads what the package depends on: the machine has no network of its own."""
         done = subprocess.run(["chroot", self.root, "sh", "-c", "apt-get -q update && apt-get -qy --download-only install " + " ".join(NEEDED)],
                               stdout=subprocess.PIPE, stderr=subprocess.STDOUT, text=True)
         if done.returncode:
-            fail(f"apt-get: {done.stdout[-2000:]}")
+            left_out(f"apt-get: {last_line(done.stdout)}")
 
     def start(self):
         words = ["systemd-nspawn", "--quiet", "--register=no", "--keep-unit", "--console=pipe", "--private-network", f"--directory={self.root}", "--boot"]
@@ -93,12 +97,12 @@ class Machine:
         until = time.monotonic() + SECONDS
         while time.monotonic() < until:
             if self.process.poll() is not None:
-                fail(f"systemd-nspawn: {self.process.stdout.read()[-2000:]}")
+                left_out(f"systemd-nspawn: {last_line(self.process.stdout.read())}")
             self.first = self.first_process()
             if self.first and self.run("systemctl is-system-running")[1].strip() in ("running", "degraded"):
                 return
             time.sleep(0.5)
-        fail("the machine was not started")
+        left_out(f"systemd-nspawn: no machine after {SECONDS} seconds")
 
     def first_process(self):
         """The process that systemd-nspawn started as the first one of the machine."""
@@ -144,20 +148,12 @@ class Machine:
             self.process.wait()
 
 
-class Cases:
+class OnMachine(Cases):
     """The cases so far on a machine."""
 
     def __init__(self, machine):
-        self.machine, self.count, self.failed = machine, 0, 0
-
-    def tell(self, name, told, wanted):
-        """Prints a case, and what was wanted if it differs."""
-        self.count += 1
-        if told == wanted:
-            print(f"ok    {name}", flush=True)
-        else:
-            print(f"WRONG {name}: {told!r:.1500}, and not {wanted!r:.1500}", flush=True)
-            self.failed += 1
+        super().__init__()
+        self.machine = machine
 
     def commands(self, block):
         """Runs the commands of a block of the page, and returns what the last one prints."""
@@ -188,9 +184,9 @@ def releases(program, machine):
     packages = []
     for revision in (1, 2):
         made = machine.root / f"root/made-{revision}"
-        done = subprocess.run([TOP / "tools/build/release", made, "--program", program, "--revision", str(revision)], capture_output=True, text=True)
+        done = subprocess.run([TOP / "tools/build/pack", made, "--program", program, "--revision", str(revision)], capture_output=True, text=True)
         if done.returncode:
-            fail(f"tools/build/release: {done.stderr}")
+            fail(f"tools/build/pack: {done.stderr}")
         packages.append(next(made.glob("*.deb")))
         for path in made.iterdir():
             if revision == 1 or path.suffix == ".deb":
@@ -198,9 +194,8 @@ def releases(program, machine):
     return packages
 
 
-def arguments(text):
-    words = argparse.ArgumentParser(description=text, formatter_class=argparse.RawDescriptionHelpFormatter)
-    words.add_argument("--brk", default=os.fspath(TOP / "crates/brk_cli/out/brk_cli"))
+def given_to(text):
+    words = arguments(text, program=BUILT)
     words.add_argument("--suite", default="bookworm")
     words.add_argument("--folder")
     words.add_argument("--machine", help="a folder with such a Debian, which is copied; without it one is made")
@@ -211,12 +206,8 @@ def arguments(text):
 def tried(text, trial):
     """Runs a trial, which gets the cases and the blocks of the page, on a machine with releases of the program; returns the exit
     status."""
-    given = arguments(text)
-    if os.geteuid():
-        fail("this needs root")
-    for name in ("debootstrap", "systemd-nspawn", "nsenter", "dpkg-deb"):
-        if not shutil.which(name):
-            fail(f"{name} is missing")
+    given = given_to(text)
+    require("rt", "git", "strip", "dpkg-deb", "debootstrap", "systemd-nspawn", "nsenter", root=True)
     folder = pathlib.Path(tempfile.mkdtemp(prefix="brk-machine.", dir=given.folder))
     machine = Machine(folder / "machine")
     try:
@@ -225,13 +216,12 @@ def tried(text, trial):
         else:
             machine.make(given.suite)
         machine.load()
-        packages = releases(os.path.abspath(given.brk), machine)
+        packages = releases(given.brk, machine)
         machine.start()
-        cases = Cases(machine)
+        cases = OnMachine(machine)
         trial(cases, page_blocks(packages))
     finally:
         machine.stop()
         if not given.keep:
             shutil.rmtree(folder, ignore_errors=True)
-    print(f"{cases.count} cases, {cases.failed} wrong")
-    return 1 if cases.failed else 0
+    return cases.ended()

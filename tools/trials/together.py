@@ -1,24 +1,17 @@
-"""Tries edits of a crate several at a time, for tools/build/gate and tools/trials/mutants: each check has at most one edit of each function.
+"""Tries edits of a crate several at a time, for tools/trials/mutants: each check has at most one edit of each function.
 
 A function is proved by its own body and the contracts of what it calls, so an edit of another function changes nothing in its proof. So a
 check reads the crate with up to MOST edits, and proves the functions that they change and those that these call (`rattle check --only`). A
-mutant is rejected if the prover reports an error in its function or in the answers of that function. A mutant for which it reports none, or
+mutant is rejected if the prover reports an error in its function or in the answers of that function. One for which it reports none, or
 only that a name is missing, which says nothing of a contract, is tried alone, by the kit's `must_fail`, which proves the whole crate. So is
 one that changes anything else, such as a constant, on which other functions may rest.
 
-It calls functions of the kit's rt (tried on kits 13b and 13f) over the libraries in the folders out/ of the tree, which `rt ci`, `./brk` or
-`rt check` built."""
-import hashlib
-import inspect
+It calls functions of the kit's rt (tried on kit 13f) over the libraries in the folders out/ of the tree, which `rt check` built."""
 import os
 import re
-import sys
 import tempfile
 
 import edits
-
-sys.path.append(os.path.join(os.path.dirname(os.path.dirname(os.path.realpath(__file__))), 'build'))
-from kit import load  # noqa: E402
 
 MOST = 12
 FUNCTION = re.compile(r'^( *)(?:pub(?:\(\w+\))? )?(?:const )?fn (\w+)')
@@ -27,25 +20,6 @@ ERROR = re.compile(r'^(note: )?(?:\./)?((?:src|proofs|specs)/\S+?):(\d+):\d+: (.
 # an error that says that a name is missing, and nothing of a contract
 NAME = re.compile(r'is not in scope|has no field|has no `|was not admitted|error\[')
 FLAGS = ['--jobs', '1']
-
-
-def kit():
-    """The kit's rt as a module, for which a stamp is worked out once for each crate."""
-    rt = load(lambda why: sys.exit(f'tools/trials/together.py: {why}'))
-    made, known = rt.rtlib.Crate.stamp, {}
-    rt.rtlib.Crate.stamp = lambda crate: known.get(crate.folder) or known.setdefault(crate.folder, made(crate))
-    # as under rt ci: the crates above a library load its statements
-    rt.Crate.cuts_libraries = True
-    rt.rtlib.guarded()
-    return rt
-
-
-def crates_of(rt, top):
-    """The crates of a tree. The function of kit 13b for that takes what was proved out of their folders."""
-    if len(inspect.signature(rt.crates_of).parameters) == 1:
-        return rt.crates_of(top)
-    rt.rtlib.Crate = rt.Crate
-    return rt.rtlib.crates_below(top)
 
 
 def of_impl(impl):
@@ -73,13 +47,12 @@ def place_of_answers(file):
     return '::'.join(file.split('/')[1:-1])
 
 
-class Edit:
+class Change:
     """An edit of a crate, with the functions and the other files that it changes."""
 
-    def __init__(self, folder, path):
-        self.folder, self.path, self.name = folder, path, os.path.basename(path)[:-len('.edit')]
-        self.pairs, self.functions, self.others = edits.pairs(path), set(), set()
-        for file, old, _ in self.pairs:
+    def __init__(self, folder, edit):
+        self.folder, self.edit, self.functions, self.others = folder, edit, set(), set()
+        for file, old, _ in edit.pairs:
             text = edits.read(f'{folder}/{file}')
             if file.startswith('src/'):
                 self.functions.add(function_at(file, text, max(text.find(old), 0)))
@@ -89,7 +62,7 @@ class Edit:
     def applied(self, texts):
         """The changed texts with this edit, or nothing if it cannot be applied to them."""
         texts = dict(texts)
-        for file, old, new in self.pairs:
+        for file, old, new in self.edit.pairs:
             text = texts.get(file) or edits.read(f'{self.folder}/{file}')
             if text.count(old) != 1:
                 return None
@@ -189,16 +162,16 @@ def check_functions(rt, crate, group, texts, kept):
     return rt.checked(crate, texts, [*FLAGS, *(word for it in asked for word in ('--only', it))], kept)
 
 
-def error_of_edit(rt, mutant, errors, texts):
-    error = mutant.error_in(errors)
+def error_of_edit(rt, change, errors, texts):
+    error = change.error_in(errors)
     return None if error is None or NAME.search(error) or getattr(rt, 'unread', lambda *_: False)(error, texts) else error
 
 
-def errors_of_edits(rt, crate, mutants):
-    """Yields each mutant with the error for which the prover rejects its function, or with nothing. The prover may report no error in a function that calls
-    one with an edit: such mutants are tried once more apart from each other, and at last each by itself."""
-    waiting = [it for it in mutants if it.is_of_functions()]
-    yield from ((it, None) for it in mutants if not it.is_of_functions())
+def errors_of_edits(rt, crate, changes):
+    """Yields each change with the error for which the prover rejects its function, or with nothing. The prover may report no error in a function that calls
+    one with an edit: such changes are tried once more apart from each other, and at last each by itself."""
+    waiting = [it for it in changes if it.is_of_functions()]
+    yield from ((it, None) for it in changes if not it.is_of_functions())
     with tempfile.TemporaryDirectory(prefix='together-') as kept:
         for may_join in (are_different, are_apart(called_in(crate.folder)), lambda edit, other: False):
             again = []
@@ -210,84 +183,14 @@ def errors_of_edits(rt, crate, mutants):
                 ran = check_functions(rt, crate, group, texts, kept)
                 is_answer = ran.returncode == 1 and re.search(r'^only=\d+ proved=\d+$', ran.stdout, re.MULTILINE)
                 errors = errors_of(ran.stdout, texts, crate.folder) if is_answer else []
-                for mutant in group:
-                    error = error_of_edit(rt, mutant, errors, texts)
+                for change in group:
+                    error = error_of_edit(rt, change, errors, texts)
                     if error or len(group) == 1:
-                        yield mutant, error
+                        yield change, error
                     else:
-                        again.append(mutant)
+                        again.append(change)
             yield from ((it, None) for it in waiting)
             waiting = again
-
-
-def results_of(rt, crate, paths):
-    """Yields each edit with what is said if it is rejected by a check of its function, or with nothing."""
-    for mutant, error in errors_of_edits(rt, crate, [Edit(crate.folder, it) for it in paths]):
-        yield mutant.path, error and f'must-fail {crate.name}/{mutant.name}.edit: refused, as it must be: {error[:160]}'
-
-
-def must_fail_all(rt):
-    """What the function of that name of a kit that keeps nothing does for its `rt ci`, by as few checks as there are mutants of one function."""
-
-    def tried(crate, paths, flags):
-        said = {path: (True, text) for path, text in results_of(rt, crate, paths) if text}
-        return [said.get(it) or rt.must_fail(crate, it, flags) for it in paths]
-
-    return tried
-
-
-class Kept:
-    """What earlier runs on this machine said of the mutants of a crate, as a kit that keeps what passed has it (its class of that name). A mutant that the
-    kit tried has the kit's own name there. One that was tried together with others has a name of its own, which the kit does not look for."""
-
-    def __init__(self, kept, crate, paths):
-        self.kept, self.crate = kept, crate
-        key = kept.key(crate)
-        self.sums = {True: f'{key} {sum_of_scripts()}', False: key}
-        self.names = self.named(paths)
-        found = {path: next(filter(None, map(kept.tried, names.values())), None) for path, names in self.names.items()}
-        self.known = {path: it for path, it in found.items() if it}
-
-    def named(self, paths):
-        """The names of each mutant: for a try together with others, and for one alone."""
-        return {path: {is_together: self.kept.of_edit(path, it) for is_together, it in self.sums.items()} for path in paths}
-
-    def keep(self, path, is_together, result):
-        """Keeps a result, unless a file that it rests on was changed meanwhile."""
-        if self.kept.is_untouched(self.crate) and self.named([path])[path] == self.names[path]:
-            self.kept.keep_tried(self.names[path][is_together], *result)
-
-
-def sum_of_scripts():
-    """A sum of the scripts that decide whether a mutant is rejected."""
-    return hashlib.sha256(''.join(edits.read(it) for it in (os.path.realpath(__file__), edits.__file__)).encode()).hexdigest()
-
-
-def add_edits(rt):
-    """What the function of that name of a kit that keeps what passed does for its `rt ci`: one task tries the mutants of a crate, once it is proved. Those that
-    an earlier run tried, together or alone, are not tried again."""
-
-    def added(tasks, crate, paths, first, waits, is_well, kept):
-        found, known = {}, {}
-
-        def work(given, jobs):
-            if not paths or not is_well(given):
-                return
-            earlier = Kept(kept, crate, paths)
-            known.update(earlier.known)
-            found.update(known)
-            new = [it for it in paths if it not in known]
-            is_well(given, len(new))
-            for path, text in results_of(rt, crate, new):
-                result = (rt.REFUSED, text) if text else rt.must_fail(crate, path, FLAGS)
-                found[path] = result
-                if result[0] in rt.SETTLED:
-                    earlier.keep(path, bool(text), result)
-
-        tasks[crate.name, 'edits', 0] = (waits, crate.count(rb'\n'), rt.need(crate), work)
-        return lambda given: [found[it] for it in paths], lambda: known
-
-    return added
 
 
 class Trial:
@@ -295,15 +198,15 @@ class Trial:
 
     def __init__(self, rt, top, name):
         self.rt = rt
-        self.crate = next(it for it in crates_of(rt, top) if it.name == name)
+        rt.rtlib.Crate = rt.Crate
+        self.crate = next(it for it in rt.rtlib.crates_below(top) if it.name == name)
 
-    def edits_in(self, folder):
-        names = sorted(it for it in os.listdir(folder) if it.endswith('.edit')) if os.path.isdir(folder) else []
-        return [Edit(self.crate.folder, f'{folder}/{it}') for it in names]
+    def changes(self, found):
+        return [Change(self.crate.folder, it) for it in found]
 
     def accepts(self, controls):
         """Whether the functions of these controls, of which each changes another function, are proved."""
-        waiting = list(controls)
+        waiting = self.changes(controls)
         with tempfile.TemporaryDirectory(prefix='together-') as kept:
             while waiting:
                 group, texts = group_of(waiting, are_different)
@@ -313,10 +216,14 @@ class Trial:
 
     def results(self, mutants):
         """Tries mutants several at a time. Yields each with whether it was rejected, and the error in its function or what the kit says of it."""
-        for mutant, error in errors_of_edits(self.rt, self.crate, mutants):
-            if error:
-                yield mutant, True, error
-                continue
-            kind, text = self.rt.must_fail(self.crate, mutant.path, FLAGS)
-            # kit 13b says no more than whether it was rejected
-            yield mutant, kind if isinstance(kind, bool) else kind in (self.rt.REFUSED, self.rt.AT_LIMIT), text
+        for change, error in errors_of_edits(self.rt, self.crate, self.changes(mutants)):
+            yield change.edit, *((True, error) if error else self.alone(change.edit))
+
+    def alone(self, mutant):
+        """What the kit says of a mutant that it tries alone: whether it was rejected, and for what."""
+        with tempfile.TemporaryDirectory(prefix='together-') as folder:
+            path = f'{folder}/{mutant.name}.edit'
+            with open(path, 'w', encoding='utf-8') as file:
+                file.write(mutant.text())
+            kind, text = self.rt.must_fail(self.crate, path, FLAGS)
+        return kind in (self.rt.REFUSED, self.rt.AT_LIMIT), text.partition('.edit: ')[2]

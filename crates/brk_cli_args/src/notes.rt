@@ -1,5 +1,4 @@
-//! The texts at the end of the help of each subcommand. `tools/generate/help_pages` reads this file
-//! as source: run it after a change.
+//! The texts at the end of the help of each subcommand.
 
 /// The text after the options in the help of `brk batch`.
 pub const BATCH: &str = "Example:

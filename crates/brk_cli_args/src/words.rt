@@ -1,8 +1,8 @@
 //! The arguments of `brk`: their definitions, and the job that they request. The functions `.._job`
 //! read the arguments by the names that `.._command` and `.._arg` give them, and their clauses say
 //! which argument comes into which field. No clause says which words the parser gives to which
-//! argument; brk_tests_interfaces tests it. `tools/generate/help_pages` reads this file as source,
-//! and writes the man page and the completions from it: run it after a change.
+//! argument; brk_tests_interfaces tests it. docs/brk.1 and completions have the same commands,
+//! options and texts.
 
 ghost use Rattle.std.specs.Prelude.{◌≡◌, IfOk, codes, map, option_map, string_bytes};
 ghost use Rattle.clap.specs.Matches.{first_value, found_of};

@@ -12,6 +12,7 @@ use brk_ref::{BatchName, RowNumber};
 use brk_tests_desks::desks::{Still, desk_with_reference_data, open_in_memory};
 use brk_tests_surface_rules::view::format_records;
 use brk_tests_unit::expect::{expect, expect_text};
+use brk_tests_unit::{Results, run_test};
 use sqlite::{Alter, Connection};
 use std::alloc::{AllocError, Global};
 use std::test::Fail;
@@ -37,9 +38,8 @@ fn query_of_row(alloc: Global, view: &str, row: &str) -> Result<Query, Fail> {
     Ok(parsed??)
 }
 
-// Returns the key of the row with this number in the batch A.
-fn key_of_row(alloc: Global, row: u64) -> Result<Key, Fail> {
-    match (RowNumber::new(row), BatchName::parse(alloc, b"A")?) {
+fn key_of_row(alloc: Global, batch: &[u8], row: u64) -> Result<Key, Fail> {
+    match (RowNumber::new(row), BatchName::parse(alloc, batch)?) {
         (Some(n), Some(batch)) => Ok(Key { batch, n }),
         _ => Err("a key")?,
     }
@@ -64,7 +64,8 @@ fn view_of_desk<S: Alter>(alloc: Global, desk: &mut Desk<S>, query: &Query) -> P
     desk.ask(alloc, query)
 }
 
-fn outcomes_of_run<S: Alter>(
+/// Executes calls on a desk as one run, by `Desk::run`.
+pub fn outcomes_of_run<S: Alter>(
     alloc: Global,
     desk: &mut Desk<S>,
     calls: &[(Stamp, Call)],
@@ -87,9 +88,9 @@ fn append_answer(alloc: Global, told: &mut String, answer: &Answer) -> Result<()
     Ok(())
 }
 
-// Appends a line for an outcome: that of the answer of a command, the records of the view of a query,
-// `no,` and the number of the refusal of a query, or `fault,` and the number of a fault.
-fn append_outcome(alloc: Global, told: &mut String, outcome: &Outcome) -> Result<(), Fail> {
+/// Appends a line for an outcome: that of the answer of a command, the records of the view of a query,
+/// `no,` and the number of the refusal of a query, or `fault,` and the number of a fault.
+pub fn append_outcome(alloc: Global, told: &mut String, outcome: &Outcome) -> Result<(), Fail> {
     match outcome {
         Outcome::Did(answer) => append_answer(alloc, told, answer)?,
         Outcome::Saw(view) => told.push_str(format_records(alloc, view)?.as_str())?,
@@ -131,13 +132,23 @@ fn optional_key_of_row(alloc: Global, row: u64) -> Result<Option<Key>, Fail> {
     if row == 0 {
         return Ok(None);
     }
-    Ok(Some(key_of_row(alloc, row)?))
+    Ok(Some(key_of_row(alloc, b"A", row)?))
 }
 
-fn call_of_row(alloc: Global, row: &str, key: u64) -> Result<(Stamp, Call), Fail> {
-    let key = optional_key_of_row(alloc, key)?;
+fn call_of_row(alloc: Global, row: &str, key: Option<Key>) -> Result<(Stamp, Call), Fail> {
     let command = command_of_row(alloc, row)?;
     Ok((first_timestamp(), Call::Do(command, key)))
+}
+
+/// Returns the call of the row with this number in a batch, at 2024-03-01 00:00 UTC.
+pub fn call_under_key(
+    alloc: Global,
+    row: &str,
+    batch: &[u8],
+    number: u64,
+) -> Result<(Stamp, Call), Fail> {
+    let key = key_of_row(alloc, batch, number)?;
+    call_of_row(alloc, row, Some(key))
 }
 
 fn call_of_query(alloc: Global, view: &str, row: &str) -> Result<(Stamp, Call), Fail> {
@@ -148,6 +159,7 @@ fn call_of_query(alloc: Global, view: &str, row: &str) -> Result<(Stamp, Call), 
 fn calls_of_run(alloc: Global) -> Result<Vec<(Stamp, Call)>, Fail> {
     let mut calls = Vec::new(alloc);
     for (row, key) in ROWS {
+        let key = optional_key_of_row(alloc, key)?;
         calls.push(call_of_row(alloc, row, key)?)?;
     }
     for (view, row) in QUERIES {
@@ -177,11 +189,10 @@ fn expect_outcomes_of_run<S: Alter + Drop>(
     expect_outcomes(alloc, &out, OUTCOMES)
 }
 
-/// Checks that a run has an outcome for each of its calls: it executes the commands after a refused
-/// one, repeats the stored reply to a row under its key, refuses another row under this key and the
-/// same row under another one, and answers queries, of which it refuses one. Fails also if the desk
-/// cannot be set up, or if memory runs out.
-pub fn a_run_has_an_outcome_for_each_call(alloc: Global) -> Result<(), Fail> {
+// Checks that a run has an outcome for each of its calls: it executes the commands after a refused
+// one, repeats the stored reply to a row under its key, refuses another row under this key and the
+// same row under another one, and answers queries, of which it refuses one.
+fn a_run_has_an_outcome_for_each_call(alloc: Global) -> Result<(), Fail> {
     let calls = calls_of_run(alloc)?;
     expect_outcomes_of_run(alloc, open_in_memory(alloc), &calls)
 }
@@ -229,7 +240,7 @@ fn expect_answers_under_key<S: Alter>(
 }
 
 fn expect_answers_to_new_broker<S: Alter>(alloc: Global, desk: &mut Desk<S>) -> Result<(), Fail> {
-    let key = key_of_row(alloc, 1)?;
+    let key = key_of_row(alloc, b"A", 1)?;
     expect_answers_under_key(alloc, desk, &key)
 }
 
@@ -279,9 +290,14 @@ fn expect_calls_after_trades<S: Alter + Drop>(
     expect_head(alloc, &mut desk)
 }
 
-/// Checks public names of brk_desk: commands under keys, a query, and the head of a statement.
-/// Fails if an answer differs, and if memory runs out.
-pub fn surface_of_brk_desk(alloc: Global) -> Result<(), Fail> {
+// Checks public names of brk_desk: commands under keys, a query, and the head of a statement.
+fn surface_of_brk_desk(alloc: Global) -> Result<(), Fail> {
     expect_text_of_row(alloc)?;
     expect_calls_after_trades(alloc, open_in_memory(alloc))
+}
+
+pub fn run_tests(rt: &HostRuntime, results: &mut Results) {
+    let alloc = rt.alloc();
+    run_test!(rt, results, a_run_has_an_outcome_for_each_call(alloc));
+    run_test!(rt, results, surface_of_brk_desk(alloc));
 }

@@ -11,6 +11,7 @@ use brk_tests_desks::retried::{ROWS, all_lines_of_retry};
 use brk_tests_desks::tables::expect_all_tables;
 use brk_tests_desks::worked::format_batch;
 use brk_tests_unit::expect::expect;
+use brk_tests_unit::{Results, run_test};
 use sqlite::{Alter, Connection};
 use std::alloc::Global;
 use std::io::ErrorKind;
@@ -170,10 +171,9 @@ fn expect_retries(
     Ok(())
 }
 
-/// Checks, for each byte of a batch before which the reader fails or is interrupted, that the batch
-/// fails with `Read` after exactly the lines of the decided rows, and that its retry completes.
-/// Fails if not, and if memory runs out.
-pub fn a_batch_can_be_retried_after_a_read_fault(alloc: Global) -> Result<(), Fail> {
+// Checks, for each byte of a batch before which the reader fails or is interrupted, that the batch
+// fails with `Read` after exactly the lines of the decided rows, and that its retry completes.
+fn a_batch_can_be_retried_after_a_read_fault(alloc: Global) -> Result<(), Fail> {
     let cuts = [
         Cut::Reader(ErrorKind::Other),
         Cut::Reader(ErrorKind::Interrupted),
@@ -186,11 +186,10 @@ pub fn a_batch_can_be_retried_after_a_read_fault(alloc: Global) -> Result<(), Fa
     expect_retries(alloc, whole, &cuts, batch.len())
 }
 
-/// Checks, for each byte of the lines of a batch at which the writer fails, is interrupted or
-/// accepts no byte, that the batch fails with `Write`, that exactly the bytes before are written,
-/// and that its retry completes: a row whose line was not written remains committed. Fails if not,
-/// and if memory runs out.
-pub fn a_batch_can_be_retried_after_a_write_fault(alloc: Global) -> Result<(), Fail> {
+// Checks, for each byte of the lines of a batch at which the writer fails, is interrupted or
+// accepts no byte, that the batch fails with `Write`, that exactly the bytes before are written,
+// and that its retry completes: a row whose line was not written remains committed.
+fn a_batch_can_be_retried_after_a_write_fault(alloc: Global) -> Result<(), Fail> {
     let cuts = [
         Cut::Writer(None),
         Cut::Writer(Some(ErrorKind::Other)),
@@ -202,4 +201,18 @@ pub fn a_batch_can_be_retried_after_a_write_fault(alloc: Global) -> Result<(), F
         lines: lines.as_str(),
     };
     expect_retries(alloc, whole, &cuts, lines.len())
+}
+
+pub fn run_tests(rt: &HostRuntime, results: &mut Results) {
+    let alloc = rt.alloc();
+    run_test!(
+        rt,
+        results,
+        a_batch_can_be_retried_after_a_read_fault(alloc)
+    );
+    run_test!(
+        rt,
+        results,
+        a_batch_can_be_retried_after_a_write_fault(alloc)
+    );
 }

@@ -3,6 +3,7 @@
 use brk_money::{Condition, Fault};
 use brk_tests_desks::desks::{create_store, expect_connection, new_store, open_in_memory};
 use brk_tests_unit::expect::expect;
+use brk_tests_unit::{Results, run_test};
 use sqlite::{Alter, Connection};
 use std::alloc::Global;
 use std::test::Fail;
@@ -30,9 +31,9 @@ fn fault_of_second_creation<S: Alter + Drop>(
     Ok(fault_of_creation(new_store(conn)?.into_conn()))
 }
 
-/// Checks that creating a store in a database that has one already fails with `NotEmpty`, and that
-/// no transaction is open after it.
-pub fn a_second_creation_fails(alloc: Global) -> Result<(), Fail> {
+// Checks that creating a store in a database that has one already fails with `NotEmpty`, and that
+// no transaction is open after it.
+fn a_second_creation_fails(alloc: Global) -> Result<(), Fail> {
     expect_not_empty(fault_of_second_creation(open_in_memory(alloc))?)
 }
 
@@ -59,17 +60,28 @@ fn other_rows_after_creation<S: Alter + Drop>(conn: Option<Connection<S>>) -> Re
     )
 }
 
-/// Checks that, after the creation of a store, another table of the database still has exactly one
-/// row whose column B is 1, as before.
-pub fn creation_preserves_other_tables(alloc: Global) -> Result<(), Fail> {
+// Checks that, after the creation of a store, another table of the database still has exactly one
+// row whose column B is 1, as before.
+fn creation_preserves_other_tables(alloc: Global) -> Result<(), Fail> {
     let count = other_rows_after_creation(open_in_memory(alloc))?;
     expect(count == 1, "other rows")
 }
 
-/// Checks that creating a store fails with `NotEmpty` in a database that has a table whose name
-/// differs from that of a desk's table only in upper and lower case.
-pub fn creation_fails_beside_a_table_name_in_other_case(alloc: Global) -> Result<(), Fail> {
+// Checks that creating a store fails with `NotEmpty` in a database that has a table whose name
+// differs from that of a desk's table only in upper and lower case.
+fn creation_fails_beside_a_table_name_in_other_case(alloc: Global) -> Result<(), Fail> {
     let sql = "CREATE TABLE Cash_Transaction (A TEXT)";
     let conn = connection_after_sql(open_in_memory(alloc), sql)?;
     expect_not_empty(fault_of_creation(conn))
+}
+
+pub fn run_tests(rt: &HostRuntime, results: &mut Results) {
+    let alloc = rt.alloc();
+    run_test!(rt, results, a_second_creation_fails(alloc));
+    run_test!(rt, results, creation_preserves_other_tables(alloc));
+    run_test!(
+        rt,
+        results,
+        creation_fails_beside_a_table_name_in_other_case(alloc)
+    );
 }

@@ -7,7 +7,8 @@ use brk_store::{LotPages, Store};
 use brk_tests_desks::desks::{buy_for_new_account, desk_with_reference_data, open_in_memory};
 use brk_tests_desks::worked::FIRST_MOMENT;
 use brk_tests_unit::expect::expect;
-use brk_trade_rows::Change;
+use brk_tests_unit::{Results, run_test};
+use brk_trade::Change;
 use sqlite::{Alter, Connection};
 use std::alloc::Global;
 use std::test::Fail;
@@ -161,11 +162,16 @@ fn expect_rows_read_beside<S: Alter + Drop>(
     expect_rows_read_after_sales(alloc, &mut store, symbol)
 }
 
-/// Checks that a sale reads only the pages of at most 4 rows that contain the lots that it closes,
-/// whether it closes the oldest or the newest lots first, also after sales, and whether the desk has
-/// few lots or many.
-pub fn a_sale_reads_only_the_pages_it_needs(alloc: Global) -> Result<(), Fail> {
+// Checks that a sale reads only the pages of at most 4 rows that contain the lots that it closes,
+// whether it closes the oldest or the newest lots first, also after sales, and whether the desk has
+// few lots or many.
+fn a_sale_reads_only_the_pages_it_needs(alloc: Global) -> Result<(), Fail> {
     let symbol = Symbol::parse(alloc, b"ABC")?.ok_or("symbol")?;
     expect_rows_read_beside(alloc, open_in_memory(alloc), &symbol, 0)?;
     expect_rows_read_beside(alloc, open_in_memory(alloc), &symbol, OTHER_LOTS)
+}
+
+pub fn run_tests(rt: &HostRuntime, results: &mut Results) {
+    let alloc = rt.alloc();
+    run_test!(rt, results, a_sale_reads_only_the_pages_it_needs(alloc));
 }

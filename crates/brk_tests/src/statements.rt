@@ -8,13 +8,14 @@ use brk_tests_desks::desks::{
 use brk_tests_desks::faulty::Narrow;
 use brk_tests_desks::statements::{Asked, BOUGHT, WANTED, account_and_days};
 use brk_tests_unit::expect::expect;
+use brk_tests_unit::{Results, run_test};
 use sqlite::{Alter, Connection};
 use std::alloc::Global;
 use std::io::ErrorKind;
 use std::test::Fail;
 
 /// Returns a new desk in the database of a connection after the batch `SET` and the trades
-/// `BOUGHT`. Fails as `desk_with_reference_data` does, and if the trades have other lines.
+/// `BOUGHT`.
 pub fn desk_after_trades<S: Alter + Drop>(
     alloc: Global,
     conn: Option<Connection<S>>,
@@ -76,10 +77,15 @@ fn expect_each_statement_write_fault<S: Alter + Drop>(
     Ok(())
 }
 
-/// Checks, for each byte of a statement, at which the writer by turns accepts no byte, fails or is
-/// interrupted, that the statement fails with `Write` and that exactly the bytes before are
-/// written, and that the statement completes with room for all bytes.
-pub fn a_failed_write_ends_the_statement(alloc: Global) -> Result<(), Fail> {
+// Checks, for each byte of a statement, at which the writer by turns accepts no byte, fails or is
+// interrupted, that the statement fails with `Write` and that exactly the bytes before are
+// written, and that the statement completes with room for all bytes.
+fn a_failed_write_ends_the_statement(alloc: Global) -> Result<(), Fail> {
     let asked = account_and_days(100, "2024-03-01", "2024-03-31")?;
     expect_each_statement_write_fault(alloc, open_in_memory(alloc), &asked)
+}
+
+pub fn run_tests(rt: &HostRuntime, results: &mut Results) {
+    let alloc = rt.alloc();
+    run_test!(rt, results, a_failed_write_ends_the_statement(alloc));
 }

@@ -7,6 +7,7 @@ use brk_ref::{CashRow, SummaryRow, Symbol};
 use brk_store::Store;
 use brk_tests_desks::desks::open_in_memory;
 use brk_tests_unit::expect::expect;
+use brk_tests_unit::{Results, run_test};
 use sqlite::{Alter, Connection};
 use std::alloc::Global;
 use std::test::Fail;
@@ -101,8 +102,13 @@ fn expect_numbers_of_new_store<S: Alter + Drop>(
     expect_numbers_after_trades(alloc, &mut store)
 }
 
-/// Checks public names of brk_store: reads of an account, a broker and a position, walks, and an
-/// audit. Fails if an answer differs, and if memory runs out.
-pub fn surface_of_brk_store(alloc: Global) -> Result<(), Fail> {
+// Checks public names of brk_store: reads of an account, a broker and a position, walks, and an
+// audit.
+fn surface_of_brk_store(alloc: Global) -> Result<(), Fail> {
     expect_numbers_of_new_store(alloc, open_in_memory(alloc))
+}
+
+pub fn run_tests(rt: &HostRuntime, results: &mut Results) {
+    let alloc = rt.alloc();
+    run_test!(rt, results, surface_of_brk_store(alloc));
 }

@@ -8,6 +8,7 @@ use brk_tests_desks::desks::{
     Step, buy_for_new_account, desk_after_step, desk_with_reference_data, open_in_memory,
 };
 use brk_tests_unit::expect::expect;
+use brk_tests_unit::{Results, run_test};
 use sqlite::{Alter, Connection};
 use std::alloc::Global;
 use std::test::Fail;
@@ -265,10 +266,15 @@ fn expect_walks_beside<S: Alter + Drop>(
     expect_lot_walks(alloc, &mut desk)
 }
 
-/// Checks, for each walk of `CASH` and of `LOTS`, that it passes exactly the wanted cash rows, sorted
-/// by stamp, or lots, sorted by symbol, then by opening stamp, ascending, and that it has the wanted
-/// result: on a small desk by a scan, and on one with `OTHER_PURCHASES` more trades by the index.
-pub fn walks_pass_rows_in_order(alloc: Global) -> Result<(), Fail> {
+// Checks, for each walk of `CASH` and of `LOTS`, that it passes exactly the wanted cash rows, sorted
+// by stamp, or lots, sorted by symbol, then by opening stamp, ascending, and that it has the wanted
+// result: on a small desk by a scan, and on one with `OTHER_PURCHASES` more trades by the index.
+fn walks_pass_rows_in_order(alloc: Global) -> Result<(), Fail> {
     expect_walks_beside(alloc, open_in_memory(alloc), 0)?;
     expect_walks_beside(alloc, open_in_memory(alloc), OTHER_PURCHASES)
+}
+
+pub fn run_tests(rt: &HostRuntime, results: &mut Results) {
+    let alloc = rt.alloc();
+    run_test!(rt, results, walks_pass_rows_in_order(alloc));
 }

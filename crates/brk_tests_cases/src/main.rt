@@ -7,13 +7,13 @@ mod tests;
 
 use brk_tests_replay::replay_all_folders;
 use std::process::ExitCode;
-use tests::AllTests;
+use tests::AllCrates;
 
 // Runs the program, and returns the exit status: 0 if each replay equals its transcript, 1 if one
 // differs, and 2 if the program fails, after a line on standard error. A failure to write to
 // standard error is ignored.
 fn main(rt: HostRuntime) -> ExitCode {
-    match replay_all_folders(&rt, &AllTests) {
+    match replay_all_folders(&rt, &AllCrates) {
         Ok(true) => ExitCode::SUCCESS,
         Ok(false) => ExitCode::FAILURE,
         Err(fault) => {

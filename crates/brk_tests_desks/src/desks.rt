@@ -217,17 +217,16 @@ pub fn run_batch_at_desk<S: Alter>(
     (lines, ended)
 }
 
-// Checks that the bytes `told` that a batch wrote are exactly the lines `wanted` (`expect_lines`).
-// Fails without `case` if the bytes are not UTF-8.
-fn expect_batch_lines(case: Case<'_>, told: &[u8], wanted: &str) -> Result<(), Fail> {
+/// Checks that the bytes `told` that a batch wrote are exactly the lines `wanted`. Fails with `case`
+/// and the number of the first line that differs, or without `case` if the bytes are not UTF-8.
+pub fn expect_batch_lines(case: Case<'_>, told: &[u8], wanted: &str) -> Result<(), Fail> {
     match str::from_utf8(told) {
         Ok(told) => expect_lines(case, "lines", told, wanted),
         Err(_) => Err("no text")?,
     }
 }
 
-// Returns the end line of a batch with these counts, or another text for a fault. Fails only if
-// memory runs out.
+// Returns the end line of a batch with these counts, or another text for a fault.
 fn end_line(alloc: Global, ended: Result<Counts, BatchFault>) -> Result<String, AllocError> {
     match ended {
         Ok(Counts { ok, again, no }) => format!(in alloc; "end,{ok},{again},{no}\n"),
@@ -236,7 +235,6 @@ fn end_line(alloc: Global, ended: Result<Counts, BatchFault>) -> Result<String, 
 }
 
 // Checks that a batch completed, and that the lines `lines` end with the end line of its counts.
-// Fails with `case` if not, and without it if memory runs out.
 fn expect_batch_counts(
     alloc: Global,
     case: Case<'_>,
@@ -253,7 +251,7 @@ fn expect_batch_counts(
 /// Executes the batch of `step` on a desk at 2024-03-01 00:00 UTC, and checks that the batch
 /// completes, that it writes exactly the lines of `step`, and that these lines end with the end
 /// line of its counts. Fails with `case` if not, and without it if the batch writes bytes that are
-/// not UTF-8. Fails also if memory runs out, with or without `case`.
+/// not UTF-8.
 pub fn expect_batch_result<S: Alter>(
     alloc: Global,
     desk: &mut Desk<S>,
@@ -266,8 +264,7 @@ pub fn expect_batch_result<S: Alter>(
 }
 
 /// Adds an account to a desk after the batch `SET`, and buys one share of ABC at 10.00 for it
-/// `purchases` times, with the trade ids from `first` on. Fails if a row is not accepted, or if
-/// memory runs out.
+/// `purchases` times, with the trade ids from `first` on. Fails if a row is not accepted.
 pub fn buy_for_new_account<S: Alter>(
     alloc: Global,
     desk: &mut Desk<S>,

@@ -84,8 +84,7 @@ impl Narrow {
 impl Write for Narrow {
     /// Appends the first bytes of `buf` to `taken`, at most seven and at most as many as there is
     /// room for, and returns their number. At the first call without room, fails with `error`, or
-    /// returns 0 if `error` is `None`; after it there is room for all bytes. Fails also if memory
-    /// runs out.
+    /// returns 0 if `error` is `None`; after it there is room for all bytes.
     fn write(&mut self, buf: &[u8]) -> io::Result<usize> {
         let left = self.room.saturating_sub(self.taken.len());
         if left == 0 {

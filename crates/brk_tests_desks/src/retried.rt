@@ -27,7 +27,7 @@ const LINES: [&str; 6] = [
 
 /// Returns all lines of the batch of `ROWS` on a desk that has accepted its first `booked` rows, or
 /// all six if `booked` is greater, after the batch `SET`: the stored replies to these rows, the
-/// other rows accepted, and the end line. Fails only if memory runs out.
+/// other rows accepted, and the end line.
 pub fn all_lines_of_retry(alloc: Global, booked: usize) -> Result<String, Fail> {
     lines_of_retry(alloc, &LINES, booked)
 }

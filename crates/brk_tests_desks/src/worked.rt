@@ -91,7 +91,6 @@ pub const LAST_FIRST_LINES: [&str; 6] = [
 
 /// Appends two rows, each with a line feed: a market order for cash to buy `shares` shares of ABC
 /// for the account with the id `account`, and the result at 10.00 of the trade with the id `trade`.
-/// Fails only if memory runs out.
 pub fn append_purchase(
     batch: &mut String,
     account: u64,
@@ -105,8 +104,7 @@ pub fn append_purchase(
     Ok(())
 }
 
-/// Appends the end record of a batch of `rows` rows, with a line feed. Fails only if memory runs
-/// out.
+/// Appends the end record of a batch of `rows` rows, with a line feed.
 pub fn append_end_record(batch: &mut String, rows: u64) -> Result<(), Fail> {
     writeln!(batch, "end,{rows}")?;
     Ok(())
@@ -126,7 +124,7 @@ fn append_purchases(
 }
 
 /// Returns the text of a batch that adds an account, and buys one share of ABC at 10.00 for it
-/// `purchases` times, with the trade ids from `first` on. Fails only if memory runs out.
+/// `purchases` times, with the trade ids from `first` on.
 pub(crate) fn format_purchases(
     alloc: Global,
     account: u64,
@@ -142,7 +140,7 @@ pub(crate) fn format_purchases(
     Ok(batch)
 }
 
-/// Returns the text of a batch with the name T and these rows. Fails only if memory runs out.
+/// Returns the text of a batch with the name T and these rows.
 pub fn format_batch(alloc: Global, rows: &[&str]) -> Result<String, Fail> {
     let mut batch = String::from_str(alloc, "batch,T\n")?;
     for row in rows {
@@ -163,7 +161,7 @@ fn append_reply_line(
 }
 
 // Appends a line for each reply in `lines`, in the form in which a batch writes it: the number of
-// its row, counted from `first`, the word `word`, and the reply. Fails only if memory runs out.
+// its row, counted from `first`, the word `word`, and the reply.
 fn append_reply_lines(
     told: &mut String,
     first: u64,
@@ -181,7 +179,7 @@ fn append_reply_lines(
 /// Returns all lines that a batch writes on a desk that has accepted its first `booked` rows
 /// before, or all of its rows if it has fewer: the stored replies to these rows, the other rows
 /// accepted, and the end line. `lines` are the replies to all rows, without the row's number and
-/// the word `ok`. Fails only if memory runs out.
+/// the word `ok`.
 pub fn lines_of_retry(alloc: Global, lines: &[&str], booked: usize) -> Result<String, Fail> {
     let (again, rest) = lines.split_at(booked.min(lines.len()));
     let mut told = String::new(alloc);

@@ -15,6 +15,7 @@ use brk_tests_desks::worked;
 use brk_tests_desks::worked::{
     LAST_FIRST_LINES, LAST_FIRST_ROWS, SET, SET_LINES, format_batch, lines_of_retry,
 };
+use brk_tests_unit::{Results, run_test};
 use sqlite::{Alter, Connection};
 use std::alloc::Global;
 use std::test::Fail;
@@ -70,8 +71,7 @@ pub fn fail_unless(is_so: bool, stop: MachineCrash, what: &str) -> Result<(), Fa
 }
 
 // Executes a batch on a new desk in the database of a connection after the batch `SET`. Returns the
-// observation of the batch. Fails without a connection, and if the desk cannot be set up
-// (`desk_with_reference_data`).
+// observation of the batch.
 fn run_observed_batch_after_set<S: Alter + Drop>(
     alloc: Global,
     conn: Option<Connection<S>>,
@@ -85,8 +85,7 @@ fn run_observed_batch_after_set<S: Alter + Drop>(
 
 // Returns all tables of a desk in memory as text, after the batch `SET` and a batch of the first
 // `rows` rows of `ROWS`, at most six. Does not check that the second batch completes or that its
-// rows are accepted. Fails if the desk cannot be set up, if the tables cannot be read, or if memory
-// runs out.
+// rows are accepted.
 fn tables_after_rows(alloc: Global, rows: usize) -> Result<String, Fail> {
     let batch = format_batch(alloc, &ROWS[..rows.min(6)])?;
     run_observed_batch_after_set(alloc, open_in_memory(alloc), batch.as_bytes())?.into_tables()
@@ -176,7 +175,6 @@ pub fn expect_committed_rows(
 
 // Checks that the lines until the crash are a prefix of the lines of the batch of all `ROWS`, and
 // that a run without a crash has exactly these lines and the tables `last`, and passes its audit.
-// Fails if not, or if memory runs out.
 fn expect_first_lines(
     alloc: Global,
     stop: MachineCrash,
@@ -196,7 +194,7 @@ fn expect_first_lines(
 
 // Checks that the retry completes the batch of all `ROWS` on a desk that has accepted its first
 // `rows` rows: it has the stored replies to these rows, accepts the others, passes its audit, and
-// has the tables `last`. Fails if not, or if memory runs out.
+// has the tables `last`.
 fn expect_batch_completed(
     alloc: Global,
     stop: MachineCrash,
@@ -212,7 +210,7 @@ fn expect_batch_completed(
 // Checks that the tables after the crash are those after the rows with a written line, or after one
 // row more, and that the retry completes the batch (`expect_batch_completed`) with the last of
 // `tables`, which are the tables after each number of rows, from none on. Checks also the lines
-// until the crash (`expect_first_lines`). Fails if not all of this is so, or if memory runs out.
+// until the crash (`expect_first_lines`).
 fn expect_retry_completes(
     alloc: Global,
     stop: MachineCrash,
@@ -248,8 +246,7 @@ fn expect_upgrade_completed(
 }
 
 // Checks the run until the crash and the run after it: `expect_creation_completed`,
-// `expect_retry_completes` or `expect_upgrade_completed`. Fails if what it checks is not so, or if
-// memory runs out.
+// `expect_retry_completes` or `expect_upgrade_completed`.
 fn expect_recovered(
     alloc: Global,
     stop: MachineCrash,
@@ -265,8 +262,7 @@ fn expect_recovered(
 }
 
 // Performs the work until the crash `stop` and again after it, and checks that the desk recovers
-// from the crash (`expect_recovered`). Returns true if there was a crash. Fails if the desk does not
-// recover, or if memory runs out.
+// from the crash (`expect_recovered`). Returns true if there was a crash.
 fn expect_crash_recovered(alloc: Global, stop: MachineCrash, work: Work<'_>) -> Result<bool, Fail> {
     let first = run_batch_until_crash(alloc, work.start, stop, work.first)?;
     let again = run_batch_until_crash(alloc, &first.held, MachineCrash::NEVER, work.again)?;
@@ -275,8 +271,7 @@ fn expect_crash_recovered(alloc: Global, stop: MachineCrash, work: Work<'_>) -> 
 }
 
 // Performs the work with the crash `stop` at each call of its file, until a run has no crash, and
-// checks that the desk recovers from each crash. Fails if it does not, if a run without a crash is
-// not reached within `MOST_CALLS` runs, or if memory runs out.
+// checks that the desk recovers from each crash.
 fn expect_each_call_recovered(
     alloc: Global,
     stop: MachineCrash,
@@ -299,9 +294,9 @@ fn expect_each_crash_recovered(alloc: Global, work: Work<'_>) -> Result<(), Fail
     Ok(())
 }
 
-/// Checks that a desk can be opened or created, and set up, after a crash at each call of the log
-/// or the database file during its creation, with the bytes that were not synced lost or stored.
-pub fn desk_creation_recovers_from_crashes(alloc: Global) -> Result<(), Fail> {
+// Checks that a desk can be opened or created, and set up, after a crash at each call of the log
+// or the database file during its creation, with the bytes that were not synced lost or stored.
+fn desk_creation_recovers_from_crashes(alloc: Global) -> Result<(), Fail> {
     let tables = tables_after_rows(alloc, 0)?;
     let start = Held::empty_files(alloc);
     let work = Work {
@@ -314,8 +309,7 @@ pub fn desk_creation_recovers_from_crashes(alloc: Global) -> Result<(), Fail> {
 }
 
 /// Returns all tables of a desk in memory, as text, after the batch `SET` and each number of the
-/// rows `ROWS`, from none to all six. Fails if a desk cannot be set up, if the tables cannot be
-/// read, or if memory runs out.
+/// rows `ROWS`, from none to all six.
 pub fn tables_after_each_row(alloc: Global) -> Result<Vec<String>, Fail> {
     let mut tables = Vec::new(alloc);
     for rows in 0..=6 {
@@ -324,9 +318,9 @@ pub fn tables_after_each_row(alloc: Global) -> Result<Vec<String>, Fail> {
     Ok(tables)
 }
 
-/// Checks that a batch can be retried and completed after a crash at each call of the log or the
-/// database file during the batch, with the bytes that were not synced lost or stored.
-pub fn batch_execution_recovers_from_crashes(alloc: Global) -> Result<(), Fail> {
+// Checks that a batch can be retried and completed after a crash at each call of the log or the
+// database file during the batch, with the bytes that were not synced lost or stored.
+fn batch_execution_recovers_from_crashes(alloc: Global) -> Result<(), Fail> {
     let batch = format_batch(alloc, &ROWS)?;
     let tables = tables_after_each_row(alloc)?;
     let start = files_with_reference_data(alloc)?;
@@ -341,7 +335,7 @@ pub fn batch_execution_recovers_from_crashes(alloc: Global) -> Result<(), Fail> 
 
 // Executes the first three trades of `worked::ROWS` as a batch on a desk in files after the batch
 // `SET`. Returns the observation of the batch and the files after it. Does not check that the
-// batches complete. Fails only if memory runs out.
+// batches complete.
 fn files_after_trades(alloc: Global) -> Result<Sent, Fail> {
     let batch = format_batch(alloc, &worked::ROWS[..6])?;
     let set = files_with_reference_data(alloc)?;
@@ -350,9 +344,7 @@ fn files_after_trades(alloc: Global) -> Result<Sent, Fail> {
 
 // Upgrades a desk of three trades that the SQL statements `change` convert to an older schema, with
 // each crash of `STOPS` at each call of its file, and checks each recovery
-// (`expect_upgrade_completed`). Fails if the desk does not recover, if a run without a crash is not
-// reached within `MOST_CALLS` runs, if the statements fail, if the tables cannot be read, or if
-// memory runs out.
+// (`expect_upgrade_completed`).
 fn expect_upgrade_recovered_at_each_call(alloc: Global, change: &str) -> Result<(), Fail> {
     let Sent { seen, held, .. } = files_after_trades(alloc)?;
     let tables = seen.into_tables()?;
@@ -366,15 +358,15 @@ fn expect_upgrade_recovered_at_each_call(alloc: Global, change: &str) -> Result<
     expect_each_crash_recovered(alloc, work)
 }
 
-/// Checks that the upgrade from schema 1 is atomic if the machine crashes at any call of the log or
-/// the database file, and that a retry completes it.
-pub fn upgrade_from_schema_1_recovers_from_crashes(alloc: Global) -> Result<(), Fail> {
+// Checks that the upgrade from schema 1 is atomic if the machine crashes at any call of the log or
+// the database file, and that a retry completes it.
+fn upgrade_from_schema_1_recovers_from_crashes(alloc: Global) -> Result<(), Fail> {
     expect_upgrade_recovered_at_each_call(alloc, FIRST)
 }
 
-/// Checks that the upgrade from schema 2 is atomic if the machine crashes at any call of the log or
-/// the database file, and that a retry completes it.
-pub fn upgrade_from_schema_2_recovers_from_crashes(alloc: Global) -> Result<(), Fail> {
+// Checks that the upgrade from schema 2 is atomic if the machine crashes at any call of the log or
+// the database file, and that a retry completes it.
+fn upgrade_from_schema_2_recovers_from_crashes(alloc: Global) -> Result<(), Fail> {
     expect_upgrade_recovered_at_each_call(alloc, SECOND)
 }
 
@@ -414,10 +406,10 @@ fn expect_stored_replies_after_reopening(
     Ok(())
 }
 
-/// Checks that a desk that is opened again from its files returns the stored replies of its trades,
-/// for batches of one to six trades, and for a batch of three trades with a sale that closes the
-/// last lot first.
-pub fn desks_in_files_can_be_reopened(alloc: Global) -> Result<(), Fail> {
+// Checks that a desk that is opened again from its files returns the stored replies of its trades,
+// for batches of one to six trades, and for a batch of three trades with a sale that closes the
+// last lot first.
+fn desks_in_files_can_be_reopened(alloc: Global) -> Result<(), Fail> {
     for (name, count) in [
         ("a purchase", 2),
         ("two purchases", 4),
@@ -439,4 +431,21 @@ pub fn desks_in_files_can_be_reopened(alloc: Global) -> Result<(), Fail> {
         &LAST_FIRST_ROWS,
         &LAST_FIRST_LINES,
     )
+}
+
+pub fn run_tests(rt: &HostRuntime, results: &mut Results) {
+    let alloc = rt.alloc();
+    run_test!(rt, results, desk_creation_recovers_from_crashes(alloc));
+    run_test!(rt, results, batch_execution_recovers_from_crashes(alloc));
+    run_test!(
+        rt,
+        results,
+        upgrade_from_schema_1_recovers_from_crashes(alloc)
+    );
+    run_test!(
+        rt,
+        results,
+        upgrade_from_schema_2_recovers_from_crashes(alloc)
+    );
+    run_test!(rt, results, desks_in_files_can_be_reopened(alloc));
 }

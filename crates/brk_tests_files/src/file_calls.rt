@@ -8,15 +8,16 @@ use crate::machine::{
 };
 use brk_tests_desks::expect;
 use brk_tests_desks::worked::{append_end_record, append_purchase};
+use brk_tests_unit::{Results, run_test};
 use std::alloc::{AllocError, Global};
 use std::test::Fail;
 
 // The number of lots of account 100.
 const LOTS_AT_DESK: u64 = 100;
 
-// Appends the purchases of two shares of ABC at 10.00, `LOTS_AT_DESK` times for account 100 and then
-// once for account 101, with the trade ids from 1 on, and the end record of a batch that has one row
-// before them. Fails only if memory runs out.
+// Appends the purchases of two shares of ABC at 10.00, `LOTS_AT_DESK` times for account 100 and
+// then once for account 101, with the trade ids from 1 on, and the end record of a batch that has
+// one row before them.
 fn append_purchases_of_two_shares(batch: &mut String) -> Result<(), Fail> {
     for n in 1..=LOTS_AT_DESK {
         append_purchase(batch, 100, 2, n)?;
@@ -26,7 +27,7 @@ fn append_purchases_of_two_shares(batch: &mut String) -> Result<(), Fail> {
 }
 
 // Returns the text of a batch that adds account 101, with the purchases of
-// `append_purchases_of_two_shares`. Fails only if memory runs out.
+// `append_purchases_of_two_shares`.
 fn batch_of_purchases_of_two_shares(alloc: Global) -> Result<String, Fail> {
     let mut batch = String::from_str(alloc, "batch,P\naccount,101,10,1,Side,1,10000.00\n")?;
     append_purchases_of_two_shares(&mut batch)?;
@@ -34,7 +35,7 @@ fn batch_of_purchases_of_two_shares(alloc: Global) -> Result<String, Fail> {
 }
 
 // Returns the files of a desk on which account 100 has `LOTS_AT_DESK` lots of two shares and
-// account 101 has one. Fails if a row of the purchases is not accepted or memory runs out.
+// account 101 has one.
 fn files_with_hundred_lots(alloc: Global) -> Result<Held, Fail> {
     let batch = batch_of_purchases_of_two_shares(alloc)?;
     let set = files_with_reference_data(alloc)?;
@@ -50,8 +51,7 @@ fn files_with_hundred_lots(alloc: Global) -> Result<Held, Fail> {
 
 // Returns the text of a batch with the order of a sale of `shares` shares of ABC of an account and
 // its result at 10.00. The sale is the first trade after those of
-// `batch_of_purchases_of_two_shares`, and closes the first lots first. Fails only if memory runs
-// out.
+// `batch_of_purchases_of_two_shares`, and closes the first lots first.
 fn batch_of_one_sale(alloc: Global, account: u64, shares: u64) -> Result<String, AllocError> {
     let trade = LOTS_AT_DESK + 2;
     format!(in alloc;
@@ -61,7 +61,7 @@ fn batch_of_one_sale(alloc: Global, account: u64, shares: u64) -> Result<String,
 
 // Returns true if a desk in the files `held`, whose database file accepts `calls` calls and fails
 // at each later call, accepts the order and the result of the sale of `shares` shares of an
-// account. The desk caches only one page of those that it reads. Fails only if memory runs out.
+// account. The desk caches only one page of those that it reads.
 fn is_sale_complete_within_calls(
     alloc: Global,
     held: &Held,
@@ -83,7 +83,7 @@ fn is_sale_complete_within_calls(
 
 // Returns the least number of calls of the database file, from 1 on, with which the sale of one
 // share of an account completes, or 8,192 if it does not complete with fewer. Supposes that the
-// sale completes with each greater number too. Fails only if memory runs out.
+// sale completes with each greater number too.
 fn least_calls_of_sale(alloc: Global, held: &Held, account: u64) -> Result<u64, Fail> {
     let mut most = 0u64;
     for bit in [4_096, 2_048, 1_024, 512, 256, 128, 64, 32, 16, 8, 4, 2, 1] {
@@ -120,9 +120,14 @@ fn expect_calls_of_sales(alloc: Global, held: &Held) -> Result<(), Fail> {
     expect_sale(alloc, held, 100, 33, calls, false, "33 of 100 lots")
 }
 
-/// Checks that the sale of one share needs no more calls of the database file with 100 lots than
-/// with one lot, and that the sale of 33 shares of the 100 lots needs more.
-pub fn calls_of_a_sale_do_not_grow_with_lots(alloc: Global) -> Result<(), Fail> {
+// Checks that the sale of one share needs no more calls of the database file with 100 lots than
+// with one lot, and that the sale of 33 shares of the 100 lots needs more.
+fn calls_of_a_sale_do_not_grow_with_lots(alloc: Global) -> Result<(), Fail> {
     let held = files_with_hundred_lots(alloc)?;
     expect_calls_of_sales(alloc, &held)
+}
+
+pub fn run_tests(rt: &HostRuntime, results: &mut Results) {
+    let alloc = rt.alloc();
+    run_test!(rt, results, calls_of_a_sale_do_not_grow_with_lots(alloc));
 }

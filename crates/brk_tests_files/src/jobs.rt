@@ -77,7 +77,7 @@ impl Observation {
         }
     }
 
-    /// Returns all tables after the job as text. Fails if they could not be read.
+    /// Returns all tables after the job as text.
     pub fn into_tables(self) -> Result<String, Fail> {
         let Observation { after, .. } = self;
         if after.is_empty() {

@@ -75,7 +75,7 @@ impl Held {
         }
     }
 
-    /// Returns a copy of the files. Fails only if memory runs out.
+    /// Returns a copy of the files.
     pub fn copy(&self) -> Result<Held, AllocError> {
         let log = self.log.clone()?;
         let db = self.db.clone()?;
@@ -127,7 +127,7 @@ fn perform_job_in_files<D: Disk + Drop>(
 }
 
 // Returns a file in memory with these bytes, all synced. It accepts `calls` calls and fails at each
-// later call. Fails only if memory runs out.
+// later call.
 fn failing_file_with_bytes(
     alloc: Global,
     bytes: &[u8],
@@ -142,7 +142,7 @@ fn failing_file_with_bytes(
 
 /// Returns the two files of a desk in memory, with the bytes `held`, all synced. The file
 /// `stop.file` accepts `stop.calls` calls and fails at each later call; the other one accepts all
-/// calls. Fails only if memory runs out.
+/// calls.
 pub fn files_failing_at_crash(
     alloc: Global,
     held: &Held,
@@ -176,7 +176,6 @@ fn append_bytes_after_crash(
 
 /// Returns the bytes of the files after the restart (`append_bytes_after_crash`), and a flag: true
 /// if a sync of one of the files had failed before, or if the next call of one of them would fail.
-/// Fails only if memory runs out.
 pub fn files_after_crash(
     alloc: Global,
     files: Files<Fuse<Memory>>,
@@ -214,8 +213,7 @@ pub fn options_with_cached_pages(pages: usize) -> Options {
 /// Performs a job with the input `input` on the database in the files `held` until the machine
 /// crashes, at the call of the file that `stop` names, or to the end of the job. Returns the
 /// observation of the job, the files after it, and whether the machine crashed; this is also true
-/// if the file has accepted exactly `stop.calls` calls at the end of the job. Fails only if memory
-/// runs out.
+/// if the file has accepted exactly `stop.calls` calls at the end of the job.
 pub fn perform_job_until_crash(
     alloc: Global,
     held: &Held,
@@ -238,8 +236,7 @@ pub fn perform_job_until_crash(
 /// Creates a desk in the files `held`, or adopts the one in them, and executes a batch on it until
 /// the machine crashes, at the call of the file that `stop` names, or to the end of the batch.
 /// Returns the observation of the batch, with all tables before and after it and an audit, the
-/// files after it, and whether the machine crashed (`perform_job_until_crash`). Fails only if
-/// memory runs out.
+/// files after it, and whether the machine crashed (`perform_job_until_crash`).
 pub fn run_batch_until_crash(
     alloc: Global,
     held: &Held,
@@ -258,7 +255,7 @@ pub fn run_batch_until_crash(
 }
 
 /// Returns the files of a new desk after the batch `SET`. Does not check that the desk was created
-/// or that the batch completed. Fails if memory runs out while the files are set up or copied.
+/// or that the batch completed.
 pub fn files_with_reference_data(alloc: Global) -> Result<Held, Fail> {
     let Sent { held, .. } = run_batch_until_crash(
         alloc,
@@ -270,8 +267,7 @@ pub fn files_with_reference_data(alloc: Global) -> Result<Held, Fail> {
 }
 
 /// Executes the SQL statements `text` on the database in the files `held`, as another program
-/// would, and returns the files after them. Fails if the files cannot be opened, a statement fails
-/// or memory runs out.
+/// would, and returns the files after them.
 pub fn files_after_sql(alloc: Global, held: &Held, text: &str) -> Result<Held, Fail> {
     let Sent { seen, held, .. } = perform_job_until_crash(
         alloc,

@@ -8,6 +8,7 @@ use crate::machine::{
 };
 use brk_tests_desks::expect;
 use brk_tests_desks::statements::account_and_days;
+use brk_tests_unit::{Results, run_test};
 use std::alloc::Global;
 use std::test::Fail;
 
@@ -76,8 +77,7 @@ fn written_lines(ended: Ended, text: &[u8]) -> Option<Written> {
 }
 
 // Writes the statement of account 100 for March 2024 on the desk in the files `held`, whose
-// database file accepts `calls` calls and fails at each later call. Returns what it wrote. Fails if
-// this is wrong (`written_lines`), and if memory runs out.
+// database file accepts `calls` calls and fails at each later call. Returns what it wrote.
 fn write_statement_over_failing_disk(
     alloc: Global,
     held: &Held,
@@ -100,7 +100,7 @@ fn write_statement_over_failing_disk(
 }
 
 // Checks the statement of a desk in the files `held` as
-// `a_failing_disk_leaves_whole_statement_lines` states. Fails if not, and if memory runs out.
+// `a_failing_disk_leaves_whole_statement_lines` states.
 fn expect_whole_lines_over_failing_disk(alloc: Global, held: &Held) -> Result<(), Fail> {
     let (mut had_part, mut had_none) = (false, false);
     for calls in 0..10_000 {
@@ -116,11 +116,11 @@ fn expect_whole_lines_over_failing_disk(alloc: Global, held: &Held) -> Result<()
     Err(Fail::new("no statement was whole"))
 }
 
-/// Checks, for a database file that fails after 0, 1, 2 and more calls, that the desk cannot be
-/// opened or the statement fails with `Store` after whole first lines, perhaps none but never all,
-/// until the statement is complete and equals `WANTED`, which must be with fewer than 10,000 calls.
-/// Checks also that some failed statements have lines and some have none.
-pub fn a_failing_disk_leaves_whole_statement_lines(alloc: Global) -> Result<(), Fail> {
+// Checks, for a database file that fails after 0, 1, 2 and more calls, that the desk cannot be
+// opened or the statement fails with `Store` after whole first lines, perhaps none but never all,
+// until the statement is complete and equals `WANTED`, which must be with fewer than 10,000 calls.
+// Checks also that some failed statements have lines and some have none.
+fn a_failing_disk_leaves_whole_statement_lines(alloc: Global) -> Result<(), Fail> {
     let Sent { held, .. } = run_batch_until_crash(
         alloc,
         &Held::empty_files(alloc),
@@ -128,4 +128,13 @@ pub fn a_failing_disk_leaves_whole_statement_lines(alloc: Global) -> Result<(), 
         BATCH,
     )?;
     expect_whole_lines_over_failing_disk(alloc, &held)
+}
+
+pub fn run_tests(rt: &HostRuntime, results: &mut Results) {
+    let alloc = rt.alloc();
+    run_test!(
+        rt,
+        results,
+        a_failing_disk_leaves_whole_statement_lines(alloc)
+    );
 }

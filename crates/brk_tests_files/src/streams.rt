@@ -3,6 +3,7 @@
 use crate::jobs::{Ended, Job, Observation, Task};
 use crate::machine::{Held, MachineCrash, perform_job_until_crash};
 use brk_tests_desks::expect;
+use brk_tests_unit::{Results, run_test};
 use sqlite::Options;
 use std::alloc::Global;
 use std::test::Fail;
@@ -38,8 +39,7 @@ fn count_replies(seen: &Observation) -> Option<u64> {
 }
 
 // Serves a stream of `REQUESTS` on a new desk in files whose log accepts `calls` calls and fails at
-// each later call. Returns the number of its replies. Fails if the replies are wrong
-// (`count_replies`), and if memory runs out.
+// each later call. Returns the number of its replies.
 fn serve_with_failing_log(alloc: Global, calls: u64) -> Result<u64, Fail> {
     let sent = perform_job_until_crash(
         alloc,
@@ -55,11 +55,11 @@ fn serve_with_failing_log(alloc: Global, calls: u64) -> Result<u64, Fail> {
     }
 }
 
-/// Checks, for a log that fails after 0, 1, 2 and more calls, that the reply to a row is 503 and
-/// the last of its stream, until the row and the query after it both have their replies, which must
-/// be with fewer than 1,000 calls. Numbers of calls with which the desk cannot be created are
-/// skipped. Checks also that at least one stream has the reply 503.
-pub fn a_store_fault_is_the_last_reply(alloc: Global) -> Result<(), Fail> {
+// Checks, for a log that fails after 0, 1, 2 and more calls, that the reply to a row is 503 and
+// the last of its stream, until the row and the query after it both have their replies, which must
+// be with fewer than 1,000 calls. Numbers of calls with which the desk cannot be created are
+// skipped. Checks also that at least one stream has the reply 503.
+fn a_store_fault_is_the_last_reply(alloc: Global) -> Result<(), Fail> {
     let mut had_fault = false;
     for calls in 0..1_000 {
         let replies = serve_with_failing_log(alloc, calls)?;
@@ -69,4 +69,9 @@ pub fn a_store_fault_is_the_last_reply(alloc: Global) -> Result<(), Fail> {
         had_fault = had_fault || replies == 1;
     }
     Err(Fail::new("no reply"))
+}
+
+pub fn run_tests(rt: &HostRuntime, results: &mut Results) {
+    let alloc = rt.alloc();
+    run_test!(rt, results, a_store_fault_is_the_last_reply(alloc));
 }

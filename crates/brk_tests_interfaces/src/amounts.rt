@@ -3,6 +3,7 @@
 use brk_money::Wide;
 use brk_report_lines::amount_line;
 use brk_tests_unit::expect::expect;
+use brk_tests_unit::{Results, run_test};
 use std::alloc::Global;
 use std::test::Fail;
 
@@ -32,9 +33,9 @@ const AMOUNTS: [(&str, i128, &str); 6] = [
     ),
 ];
 
-/// Checks that `amount_line` returns the wanted line of each word and amount of `AMOUNTS`, in which
-/// an amount wider than its column is printed whole.
-pub fn wide_amounts_are_printed_whole(alloc: Global) -> Result<(), Fail> {
+// Checks that `amount_line` returns the wanted line of each word and amount of `AMOUNTS`, in which
+// an amount wider than its column is printed whole.
+fn wide_amounts_are_printed_whole(alloc: Global) -> Result<(), Fail> {
     for (word, cents, wanted) in AMOUNTS {
         let line = amount_line(alloc, word, Wide::new(cents))?;
         expect(
@@ -43,4 +44,9 @@ pub fn wide_amounts_are_printed_whole(alloc: Global) -> Result<(), Fail> {
         )?;
     }
     Ok(())
+}
+
+pub fn run_tests(rt: &HostRuntime, results: &mut Results) {
+    let alloc = rt.alloc();
+    run_test!(rt, results, wide_amounts_are_printed_whole(alloc));
 }

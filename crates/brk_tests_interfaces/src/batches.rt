@@ -11,6 +11,7 @@ use brk_import_engine::{
 use brk_money::{Fault, Limit, Planned, Refusal, Stamp};
 use brk_ref::{Answer, Key};
 use brk_tests_unit::expect::{expect, expect_equal};
+use brk_tests_unit::{Results, run_test};
 use std::alloc::{AllocError, Global};
 use std::io;
 use std::io::{Read, Write};
@@ -129,8 +130,7 @@ impl Rows for Last {
         }
     }
 
-    // Returns the timestamp of an accepted command in decimal digits. Fails only if memory runs
-    // out.
+    // Returns the timestamp of an accepted command in decimal digits.
     #[tactic(auto, unfolding(brk_model::specs::Rows::reply_fields))]
     fn reply_line(alloc: Global, reply: &u64) -> Result<String, AllocError> {
         format!(in alloc; "{reply}")
@@ -226,8 +226,7 @@ struct Choppy {
 
 impl Write for Choppy {
     // Appends at most three bytes to `got`, up to `most` bytes in total, and returns their number.
-    // If `got` has `most` bytes, fails with `error`, or returns 0 if `error` is `None`. Fails also
-    // if memory runs out.
+    // If `got` has `most` bytes, fails with `error`, or returns 0 if `error` is `None`.
     fn write(&mut self, buf: &[u8]) -> io::Result<usize> {
         let room = self.most.saturating_sub(self.got.len());
         if room == 0 {
@@ -295,10 +294,10 @@ const WHOLE: &[u8] =
 // The lines of the batch `WHOLE`.
 const LINES: &[u8] = b"1,ok,7\n2,again,5,CNCL\n3,no,14,accounts\n4,no,18\n5,no,8\nend,1,1,3\n";
 
-/// Checks that each row of the batch `WHOLE`, which has an accepted, a repeated and three refused
-/// rows, has its line, followed by the end line of the counts, both if the batch is read whole and
-/// if it is read byte by byte. Fails if not, and if memory runs out.
-pub fn each_row_of_a_batch_gets_a_line(alloc: Global) -> Result<(), Fail> {
+// Checks that each row of the batch `WHOLE`, which has an accepted, a repeated and three refused
+// rows, has its line, followed by the end line of the counts, both if the batch is read whole and
+// if it is read byte by byte.
+fn each_row_of_a_batch_gets_a_line(alloc: Global) -> Result<(), Fail> {
     expect_batch_result(alloc, WHOLE, batch_counts(1, 1, 3), LINES)?;
     let slow = Flaky {
         text: WHOLE,
@@ -309,8 +308,8 @@ pub fn each_row_of_a_batch_gets_a_line(alloc: Global) -> Result<(), Fail> {
     expect_batch_result(alloc, slow, batch_counts(1, 1, 3), LINES)
 }
 
-/// Checks that a batch without rows writes only its end line. Fails if not, and if memory runs out.
-pub fn an_empty_batch_gets_an_end_line(alloc: Global) -> Result<(), Fail> {
+// Checks that a batch without rows writes only its end line.
+fn an_empty_batch_gets_an_end_line(alloc: Global) -> Result<(), Fail> {
     expect_batch_result(
         alloc,
         b"batch,Z\nend,0".as_slice(),
@@ -329,10 +328,9 @@ const CUT_INPUTS: [(&[u8], u64, &[u8]); 2] = [
     (b"batch,C\n", 0, b""),
 ];
 
-/// Checks, for the two inputs of `CUT_INPUTS`, that a row without a record after it is refused with
-/// `BadText` (18), and that the batch fails with `NoEnd` after the lines of its rows, if it has
-/// any. Fails if not, and if memory runs out.
-pub fn the_last_row_of_a_cut_input_is_refused(alloc: Global) -> Result<(), Fail> {
+// Checks, for the two inputs of `CUT_INPUTS`, that a row without a record after it is refused with
+// `BadText` (18), and that the batch fails with `NoEnd` after the lines of its rows, if it has any.
+fn the_last_row_of_a_cut_input_is_refused(alloc: Global) -> Result<(), Fail> {
     for (text, rows, lines) in &CUT_INPUTS {
         let wanted = batch_fault_result(*rows, FaultKind::NoEnd);
         expect_batch_result(alloc, *text, wanted, lines)?;
@@ -363,10 +361,9 @@ const HEADERS: [&[u8]; 2] = [
     b"batch,1234567890123456789012345678901234567890\nend,0\n",
 ];
 
-/// Checks that each batch of `WRONG_HEADERS`, whose header is missing or malformed, fails with
-/// `BadHeader` and writes nothing, and that the two correct headers of `HEADERS` are accepted.
-/// Fails if not, and if memory runs out.
-pub fn a_wrong_header_is_a_fault(alloc: Global) -> Result<(), Fail> {
+// Checks that each batch of `WRONG_HEADERS`, whose header is missing or malformed, fails with
+// `BadHeader` and writes nothing, and that the two correct headers of `HEADERS` are accepted.
+fn a_wrong_header_is_a_fault(alloc: Global) -> Result<(), Fail> {
     for text in &WRONG_HEADERS {
         let wanted = batch_fault_result(0, FaultKind::BadHeader);
         expect_batch_result(alloc, *text, wanted, b"")?;
@@ -386,9 +383,9 @@ const WRONG_ENDS: [&[u8]; 5] = [
     b"batch,A\nput,1,2\nend,",
 ];
 
-/// Checks that each batch of `WRONG_ENDS`, whose end record is malformed or has a wrong count,
-/// fails with `BadEnd` after the line of its row. Fails if not, and if memory runs out.
-pub fn a_wrong_end_record_is_a_fault(alloc: Global) -> Result<(), Fail> {
+// Checks that each batch of `WRONG_ENDS`, whose end record is malformed or has a wrong count, fails
+// with `BadEnd` after the line of its row.
+fn a_wrong_end_record_is_a_fault(alloc: Global) -> Result<(), Fail> {
     for text in &WRONG_ENDS {
         let wanted = batch_fault_result(1, FaultKind::BadEnd);
         expect_batch_result(alloc, *text, wanted, b"1,ok,7\n")?;
@@ -409,10 +406,9 @@ const FAILED_READS: [(usize, u64, &[u8], io::ErrorKind); 5] = [
     (29, 1, b"1,ok,7\n", io::ErrorKind::Other),
 ];
 
-/// Checks, for each of five positions at which a reader fails once, that the batch fails with
-/// `Read` and the number of decided rows, and that exactly the lines of these rows are written.
-/// Fails if not, and if memory runs out.
-pub fn a_failed_read_ends_the_batch(alloc: Global) -> Result<(), Fail> {
+// Checks, for each of five positions at which a reader fails once, that the batch fails with `Read`
+// and the number of decided rows, and that exactly the lines of these rows are written.
+fn a_failed_read_ends_the_batch(alloc: Global) -> Result<(), Fail> {
     for (cut, rows, lines, kind) in &FAILED_READS {
         let reader = Flaky {
             text: READ,
@@ -460,10 +456,10 @@ fn expect_batch_write_fault(
     )
 }
 
-/// Checks, for each of six numbers of bytes after which a writer fails, that the batch fails with
-/// `Write` and the number of decided rows, and that exactly this number of bytes of its lines is
-/// written. Fails if not, and if memory runs out.
-pub fn a_failed_write_ends_the_batch(alloc: Global) -> Result<(), Fail> {
+// Checks, for each of six numbers of bytes after which a writer fails, that the batch fails with
+// `Write` and the number of decided rows, and that exactly this number of bytes of its lines is
+// written.
+fn a_failed_write_ends_the_batch(alloc: Global) -> Result<(), Fail> {
     for (most, rows, error) in &FAILED_WRITES {
         expect_batch_write_fault(alloc, *most, *rows, *error)?;
     }
@@ -479,9 +475,9 @@ const DESK_FAULTS: [(&[u8], Fault); 2] = [
     (b"batch,A\nput,1,2\nparse,,,,,,,,\nend,2\n", Fault::Memory),
 ];
 
-/// Checks that the fault `Store` of a call of the desk and the fault `Memory` of the parsing of a
-/// row each end the batch after the line of the row before. Fails if not, and if memory runs out.
-pub fn a_fault_of_the_desk_ends_the_batch(alloc: Global) -> Result<(), Fail> {
+// Checks that the fault `Store` of a call of the desk and the fault `Memory` of the parsing of a
+// row each end the batch after the line of the row before.
+fn a_fault_of_the_desk_ends_the_batch(alloc: Global) -> Result<(), Fail> {
     for (text, fault) in &DESK_FAULTS {
         let wanted = batch_fault_result(1, FaultKind::Desk(*fault));
         expect_batch_result(alloc, *text, wanted, b"1,ok,7\n")?;
@@ -489,9 +485,9 @@ pub fn a_fault_of_the_desk_ends_the_batch(alloc: Global) -> Result<(), Fail> {
     Ok(())
 }
 
-/// Checks that a batch whose end record ends at the limit of an input completes, and that no byte
-/// beyond the limit is read. Fails if not, and if memory runs out.
-pub fn input_beyond_the_limit_is_not_read(alloc: Global) -> Result<(), Fail> {
+// Checks that a batch whose end record ends at the limit of an input completes, and that no byte
+// beyond the limit is read.
+fn input_beyond_the_limit_is_not_read(alloc: Global) -> Result<(), Fail> {
     let whole = Long {
         at: 0,
         tail: b"put,1,2\nend,1",
@@ -499,9 +495,9 @@ pub fn input_beyond_the_limit_is_not_read(alloc: Global) -> Result<(), Fail> {
     expect_batch_result(alloc, whole, batch_counts(1, 0, 0), b"1,ok,7\nend,1,0,0\n")
 }
 
-/// Checks that the batch `WHOLE` completes over a reader that fails at the first byte after the line
-/// of the end record: nothing is read there. Fails if not, and if memory runs out.
-pub fn input_after_the_end_record_is_not_read(alloc: Global) -> Result<(), Fail> {
+// Checks that the batch `WHOLE` completes over a reader that fails at the first byte after the line
+// of the end record: nothing is read there.
+fn input_after_the_end_record_is_not_read(alloc: Global) -> Result<(), Fail> {
     let after = b"put,2,c\n".len();
     let reader = Flaky {
         text: WHOLE,
@@ -510,4 +506,18 @@ pub fn input_after_the_end_record_is_not_read(alloc: Global) -> Result<(), Fail>
         kind: io::ErrorKind::Other,
     };
     expect_batch_result(alloc, reader, batch_counts(1, 1, 3), LINES)
+}
+
+pub fn run_tests(rt: &HostRuntime, results: &mut Results) {
+    let alloc = rt.alloc();
+    run_test!(rt, results, each_row_of_a_batch_gets_a_line(alloc));
+    run_test!(rt, results, an_empty_batch_gets_an_end_line(alloc));
+    run_test!(rt, results, the_last_row_of_a_cut_input_is_refused(alloc));
+    run_test!(rt, results, a_wrong_header_is_a_fault(alloc));
+    run_test!(rt, results, a_wrong_end_record_is_a_fault(alloc));
+    run_test!(rt, results, a_failed_read_ends_the_batch(alloc));
+    run_test!(rt, results, a_failed_write_ends_the_batch(alloc));
+    run_test!(rt, results, a_fault_of_the_desk_ends_the_batch(alloc));
+    run_test!(rt, results, input_beyond_the_limit_is_not_read(alloc));
+    run_test!(rt, results, input_after_the_end_record_is_not_read(alloc));
 }

@@ -3,12 +3,14 @@
 //! lines.
 
 use crate::files::execute_file_command;
+use crate::lines::{Piece, append_escaped_output_lines, append_output_line};
 use crate::records::{
-    append_refusal_line, append_report, append_rows_of_all_tables, execute_ask_command,
+    append_refusal_line, append_report, append_rows_of_tables, execute_ask_command,
     execute_print_command,
 };
-use crate::replay::{Piece, append_escaped_output_lines, append_output_line};
-use crate::tests::{NamedTests, execute_test_command};
+use crate::tests::{
+    TestCrates, execute_figures_command, execute_jobs_command, execute_tests_command,
+};
 use brk_desk::Desk;
 use brk_explain::{ExplainRequest, parse_explain, write_explanation};
 use brk_http::serve_stream;
@@ -114,7 +116,7 @@ fn fixed_clock_from_text(moment: &str) -> Still {
 }
 
 // Returns the bytes of all input lines of a command, in order, in one list, each followed by a line
-// feed if it has one. Fails only if memory runs out.
+// feed if it has one.
 fn join_input_lines(alloc: Global, pieces: &[Piece]) -> Result<Vec<u8>, AllocError> {
     let mut bytes = Vec::new(alloc);
     for piece in pieces {
@@ -141,8 +143,7 @@ fn batch_fault_text(kind: FaultKind) -> &'static str {
 
 // Executes the input as a batch on the desk; the clock always returns the timestamp `moment`
 // (`fixed_clock_from_text`). Appends the lines that the batch wrote and, if it failed, an output
-// line with `!`, the text for its fault, and the number of decided rows. Fails only if memory runs
-// out.
+// line with `!`, the text for its fault, and the number of decided rows.
 fn execute_batch_command(
     alloc: Global,
     out: &mut String,
@@ -167,7 +168,7 @@ fn execute_batch_command(
 
 // Serves the input as a stream of HTTP requests on the desk; the clock always returns the timestamp
 // `moment` (`fixed_clock_from_text`). Appends the bytes that were written, and then `! done` and
-// the number of replies or, if the stream failed, `! fault`. Fails only if memory runs out.
+// the number of replies or, if the stream failed, `! fault`.
 fn execute_http_command(
     alloc: Global,
     out: &mut String,
@@ -199,7 +200,7 @@ fn parse_days(from: &str, to: &str) -> Option<(Day, Day)> {
 // Writes the statement of an account: `words` contains the id of the account and the first and the
 // last day, both included, separated by single spaces. Appends the lines that were written and, if
 // the statement failed, `no` and the number of its refusal, or `! fault`. If `words` is malformed,
-// appends only `no 18` (`BadText`). Fails only if memory runs out.
+// appends only `no 18` (`BadText`).
 fn execute_statement_command(
     alloc: Global,
     out: &mut String,
@@ -249,8 +250,7 @@ fn execute_statements_command(
     }
 }
 
-// Returns the bytes of each word of a text, which is split at each of its spaces. Fails only if
-// memory runs out.
+// Returns the bytes of each word of a text, which is split at each of its spaces.
 fn bytes_of_words(alloc: Global, words: &str) -> Result<Vec<&[u8]>, AllocError> {
     let mut asked = Vec::new(alloc);
     for word in words.split(' ') {
@@ -260,7 +260,7 @@ fn bytes_of_words(alloc: Global, words: &str) -> Result<Vec<&[u8]>, AllocError> 
 }
 
 // Writes an explanation. Appends the lines that were written and, if the explanation failed, `no`
-// and the number of its refusal, or `! fault`. Fails only if memory runs out.
+// and the number of its refusal, or `! fault`.
 fn append_explanation(
     alloc: Global,
     out: &mut String,
@@ -274,8 +274,7 @@ fn append_explanation(
 
 // Writes the explanation that `words`, split at each space, requests (`parse_explain`), as
 // `append_explanation` does. If `words` requests no explanation, appends only `no` and the number
-// of the refusal. If memory runs out while `words` is parsed, appends only `! fault`. Fails only if
-// memory runs out.
+// of the refusal. If memory runs out while `words` is parsed, appends only `! fault`.
 fn execute_explain_command(
     alloc: Global,
     out: &mut String,
@@ -291,8 +290,7 @@ fn execute_explain_command(
 }
 
 // Appends the result of an audit or of an adoption as an output line: `ok`, `damaged` and the first
-// condition that fails, or `! fault` for any other fault. Appends nothing for `None`. Fails only if
-// memory runs out.
+// condition that fails, or `! fault` for any other fault. Appends nothing for `None`.
 fn append_audit_result(
     out: &mut String,
     audited: Option<Result<(), Fault>>,
@@ -328,7 +326,7 @@ fn execute_sql(conn: &mut Connection<MemStore>, bytes: &[u8]) -> bool {
 }
 
 // Executes each input line as an SQL statement (`execute_sql`), and appends the output line `! sql`
-// for each statement that fails or is not UTF-8. Fails only if memory runs out.
+// for each statement that fails or is not UTF-8.
 fn execute_sql_statements(
     out: &mut String,
     conn: &mut Connection<MemStore>,
@@ -343,7 +341,7 @@ fn execute_sql_statements(
 }
 
 // Executes the input lines as SQL statements (`execute_sql_statements`) on the open database
-// without its desk. If nothing is open, appends nothing. Fails only if memory runs out.
+// without its desk. If nothing is open, appends nothing.
 fn execute_sql_command(
     out: &mut String,
     place: &mut Place,
@@ -356,18 +354,18 @@ fn execute_sql_command(
     }
 }
 
-// Appends the rows of all tables of a desk in the open database, or in that of the open desk, as
-// output lines (`append_rows_of_all_tables`). Then adopts the database, which upgrades an older
-// schema, without appending the result. If nothing is open, appends nothing. Fails only if memory
-// runs out.
+// Appends the rows of the tables that `names` names, or of all tables, as output lines
+// (`append_rows_of_tables`). Then adopts the database, which upgrades an older schema, without
+// appending the result. If nothing is open, appends nothing.
 fn execute_tables_command(
     alloc: Global,
     out: &mut String,
     place: &mut Place,
+    names: &str,
 ) -> Result<(), AllocError> {
     place.close_desk();
     if let Place::Database(conn) = place {
-        append_rows_of_all_tables(out, conn)?;
+        append_rows_of_tables(out, conn, names)?;
     }
     place.adopt(alloc);
     Ok(())
@@ -375,7 +373,7 @@ fn execute_tables_command(
 
 // Executes a command that needs an open desk, given by its first word `verb`, the rest of its line
 // `words` and its input lines `pieces`. Appends its output lines, or `! no such command` if no such
-// command begins with `verb`. Fails only if memory runs out.
+// command begins with `verb`.
 fn execute_desk_command(
     alloc: Global,
     out: &mut String,
@@ -403,7 +401,7 @@ fn execute_desk_command(
 }
 
 // Executes a command that needs an open desk (`execute_desk_command`), or appends only `! no desk`
-// if no desk is open. Fails only if memory runs out.
+// if no desk is open.
 fn execute_command_of_open_desk(
     alloc: Global,
     out: &mut String,
@@ -420,9 +418,8 @@ fn execute_command_of_open_desk(
 
 // Executes a command that opens a new desk or database, or one on the open desk or database, given
 // by its first word `verb`, the rest of its line `words` and its input lines `pieces`. Appends its
-// output lines. If the command needs a desk or is unknown, and no desk is open, appends only
-// `! no desk`; if it is unknown and a desk is open, appends only `! no such command`. Fails only if
-// memory runs out.
+// output lines. If the command needs a desk or is unknown, and no desk is open, appends only `! no
+// desk`; if it is unknown and a desk is open, appends only `! no such command`.
 fn execute_desk_or_database_command(
     alloc: Global,
     out: &mut String,
@@ -435,7 +432,7 @@ fn execute_desk_or_database_command(
         "desk" => *place = Place::with_new_desk(alloc),
         "empty" => *place = Place::with_empty_database(alloc),
         "sql" => return execute_sql_command(out, place, pieces),
-        "tables" => return execute_tables_command(alloc, out, place),
+        "tables" => return execute_tables_command(alloc, out, place, words),
         "audit" => return append_audit_result(out, audit_place(alloc, place)),
         "adopt" => return append_audit_result(out, place.adopt(alloc)),
         _ => return execute_command_of_open_desk(alloc, out, place, verb, words, pieces),
@@ -445,10 +442,9 @@ fn execute_desk_or_database_command(
 
 /// Executes the command `command` with its input lines `pieces`: one of `tests`, a command over
 /// files, one that opens a new desk or database in `place`, or one on the open desk or database.
-/// Appends its output lines. If the command needs a desk or is unknown, and no desk is open, appends
-/// only `! no desk`; if it is unknown and a desk is open, appends only `! no such command`. Fails
-/// only if memory runs out.
-pub fn execute_command<T: NamedTests>(
+/// Appends its output lines. If the command needs a desk or is unknown, and no desk is open,
+/// appends only `! no desk`; if it is unknown and a desk is open, appends only `! no such command`.
+pub fn execute_command<T: TestCrates>(
     rt: &HostRuntime,
     tests: &T,
     out: &mut String,
@@ -462,7 +458,9 @@ pub fn execute_command<T: NamedTests>(
             let input = join_input_lines(rt.alloc(), pieces)?;
             execute_file_command(rt, out, verb, words, &input)
         }
-        "test" => execute_test_command(rt, tests, out, words),
+        "tests" => execute_tests_command(rt, tests, out, words),
+        "figures" => execute_figures_command(rt.alloc(), out, words, pieces),
+        "jobs" => execute_jobs_command(rt.alloc(), out, pieces),
         _ => execute_desk_or_database_command(rt.alloc(), out, place, verb, words, pieces),
     }
 }

@@ -2,7 +2,7 @@
 //! another program makes in a file. A function that fails may have appended a part of its lines. A
 //! change that fails may have changed a part of its file.
 
-use crate::replay::{append_escaped_lines_with_prefix, append_output_line};
+use crate::lines::{append_escaped_lines_with_prefix, append_output_line};
 use brk_cli_args::read_words;
 use brk_cli_exit::end_with;
 use brk_cli_jobs::{PipeWriter, execute_requested_job_on_machine};
@@ -11,7 +11,7 @@ use std::alloc::{AllocError, Global};
 use std::fs;
 
 // Returns `brk`, the name of the program, followed by the command-line arguments in a text, which
-// is split at each of its spaces. Fails only if memory runs out.
+// is split at each of its spaces.
 fn program_name_and_arguments(alloc: Global, text: &str) -> Result<Vec<String>, AllocError> {
     let mut words = Vec::new(alloc);
     words.push(String::from_str(alloc, "brk")?)?;
@@ -22,8 +22,7 @@ fn program_name_and_arguments(alloc: Global, text: &str) -> Result<Vec<String>, 
 }
 
 // Appends what the program wrote and how it ended: the lines of its output, the lines of its error
-// text, each with `!` before it, and a line with `=` and its exit status. Fails only if memory runs
-// out.
+// text, each with `!` before it, and a line with `=` and its exit status.
 fn append_program_result(
     out: &mut String,
     output: &[u8],
@@ -36,7 +35,7 @@ fn append_program_result(
 }
 
 // Executes the program `brk` in this process with the command-line arguments `words` and this
-// input, and appends its result (`append_program_result`). Fails only if memory runs out.
+// input, and appends its result (`append_program_result`).
 fn run_program(
     rt: &HostRuntime,
     out: &mut String,
@@ -106,8 +105,8 @@ fn change_file(rt: &HostRuntime, verb: &str, words: &str, input: &[u8]) -> bool 
 
 /// Executes a command over files, given by its first word `verb`, the rest of its line `words` and
 /// its input: the program `brk` if `verb` is `$`, and otherwise a change of a file. Appends the
-/// output lines; for a change, this is one line, `= done` or, also if `verb` is unknown,
-/// `= failed`. Fails only if memory runs out.
+/// output lines; for a change, this is one line, `= done` or, also if `verb` is unknown, `=
+/// failed`.
 pub fn execute_file_command(
     rt: &HostRuntime,
     out: &mut String,

@@ -3,7 +3,7 @@
 use crate::comparison::first_difference;
 use crate::listing::list_transcripts;
 use crate::replay::{count_commands, replay_transcript};
-use crate::tests::NamedTests;
+use crate::tests::TestCrates;
 use std::alloc::AllocError;
 use std::fmt::{Display, Formatter};
 use std::{fmt, fs, io};
@@ -64,7 +64,7 @@ fn print_result(rt: &HostRuntime, path: &str, text: &str, replayed: &str) -> io:
 // transcript. Fails with `Reading` if the transcript cannot be read, is not UTF-8 or does not fit in
 // memory, with `Memory` if memory runs out during the replay, and with `Output` if the result cannot
 // be written.
-fn replay_file<T: NamedTests>(
+fn replay_file<T: TestCrates>(
     rt: &HostRuntime,
     tests: &T,
     path: String,
@@ -83,7 +83,7 @@ fn replay_file<T: NamedTests>(
 // Replays the transcripts of a folder in the order of their names, and prints the result of each.
 // Returns true if each replay equals its transcript. Fails with `Listing` if the folder cannot be
 // listed, and with the first failure of a transcript.
-fn replay_folder<T: NamedTests>(
+fn replay_folder<T: TestCrates>(
     rt: &HostRuntime,
     tests: &T,
     folder: &str,
@@ -100,11 +100,11 @@ fn replay_folder<T: NamedTests>(
 }
 
 /// Replays the transcripts of the folder in which the program runs, and then those of its folder
-/// `files`, each in the order of their names. The command `test` runs one of `tests`. Prints a line
+/// `files`, each in the order of their names. The command `tests` runs those of `tests`. Prints a line
 /// for each transcript that its replay equals, with its name and the number of its commands, and
 /// otherwise the first line that differs. Returns true if each replay equals its transcript. Fails
 /// with the first failure of a folder.
-pub fn replay_all_folders<T: NamedTests>(rt: &HostRuntime, tests: &T) -> Result<bool, ReplayFault> {
+pub fn replay_all_folders<T: TestCrates>(rt: &HostRuntime, tests: &T) -> Result<bool, ReplayFault> {
     let mut are_equal = true;
     for folder in FOLDERS {
         are_equal = replay_folder(rt, tests, folder)? && are_equal;

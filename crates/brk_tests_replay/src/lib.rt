@@ -7,6 +7,7 @@ mod commands;
 mod comparison;
 mod files;
 mod folders;
+mod lines;
 mod listing;
 mod records;
 mod replay;
@@ -14,4 +15,4 @@ mod table_list;
 mod tests;
 
 pub use folders::{ReplayFault, replay_all_folders};
-pub use tests::NamedTests;
+pub use tests::TestCrates;

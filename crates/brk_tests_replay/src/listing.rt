@@ -4,8 +4,7 @@ use std::alloc::{AllocError, Global};
 use std::fs::DirEntry;
 use std::{fs, io};
 
-// Appends the path of a file of a folder if its name ends with `.txt`. Fails only if memory runs
-// out.
+// Appends the path of a file of a folder if its name ends with `.txt`.
 fn append_transcript_path(
     alloc: Global,
     paths: &mut Vec<String>,

@@ -1,25 +1,24 @@
 //! The records that transcripts show: those of views and the rows of all tables. A function that
 //! fails may have appended a part of its lines.
 
-use crate::replay::{Piece, append_escaped_bytes, append_escaped_output_lines, append_output_line};
+use crate::lines::{Piece, append_escaped_bytes, append_escaped_output_lines, append_output_line};
 use crate::table_list::TABLES;
 use brk_ask::{Form, write_asked};
 use brk_desk::{Desk, parse_query};
 use brk_money::{Planned, Refusal};
 use brk_report::ReportFault;
-use brk_view::view_fields;
-use brk_view_rows::View;
+use brk_view::{View, view_fields};
 use sqlite::types::ValueRef;
 use sqlite::{Connection, MemStore, Row};
 use std::alloc::{AllocError, Global};
 
-/// Appends the output line of a refusal: `no` and its number. Fails only if memory runs out.
+/// Appends the output line of a refusal: `no` and its number.
 pub fn append_refusal_line(out: &mut String, refusal: Refusal) -> Result<(), AllocError> {
     writeln!(out, "> no {}", refusal.number())
 }
 
 /// Appends the bytes `written` of a report as output lines with escapes and, if the report failed,
-/// `no` and the number of its refusal, or `! fault`. Fails only if memory runs out.
+/// `no` and the number of its refusal, or `! fault`.
 pub fn append_report(
     out: &mut String,
     written: &[u8],
@@ -34,7 +33,7 @@ pub fn append_report(
 }
 
 // Appends the fields of a record as an output line, with escapes and separated by bars. For a
-// record without fields, appends an empty line. Fails only if memory runs out.
+// record without fields, appends an empty line.
 fn append_record_line(out: &mut String, record: &[String]) -> Result<(), AllocError> {
     let mut sign = "> ";
     for field in record {
@@ -45,7 +44,7 @@ fn append_record_line(out: &mut String, record: &[String]) -> Result<(), AllocEr
     out.push_str("\n")
 }
 
-// Appends each record, in order, as an output line. Fails only if memory runs out.
+// Appends each record, in order, as an output line.
 fn append_record_lines(out: &mut String, records: &[Vec<String>]) -> Result<(), AllocError> {
     for record in records {
         append_record_line(out, record)?;
@@ -53,7 +52,7 @@ fn append_record_lines(out: &mut String, records: &[Vec<String>]) -> Result<(), 
     Ok(())
 }
 
-// Appends each record of a view, in order, as an output line. Fails only if memory runs out.
+// Appends each record of a view, in order, as an output line.
 fn append_view_lines(alloc: Global, out: &mut String, view: &View) -> Result<(), AllocError> {
     match view_fields(alloc, view) {
         Ok(records) => append_record_lines(out, &records),
@@ -61,8 +60,7 @@ fn append_view_lines(alloc: Global, out: &mut String, view: &View) -> Result<(),
     }
 }
 
-// Returns the bytes of each input line as a borrowed slice, in order. Fails only if memory runs
-// out.
+// Returns the bytes of each input line as a borrowed slice, in order.
 fn bytes_of_input_lines(alloc: Global, pieces: &[Piece]) -> Result<Vec<&[u8]>, AllocError> {
     let mut texts = Vec::new(alloc);
     for piece in pieces {
@@ -89,7 +87,6 @@ fn parse_and_execute_query(
 /// Executes the query for the view with the name `view` on a desk, with the input lines as its
 /// arguments. Appends the records of the view as output lines, or `no` and the number of the
 /// refusal if the name, the arguments or the query are refused, or `! fault` if the query failed.
-/// Fails only if memory runs out.
 pub fn execute_ask_command(
     alloc: Global,
     out: &mut String,
@@ -118,7 +115,7 @@ fn format_of_printed_view(word: &str) -> Form {
 /// Prints a view of a desk: `words` contains the format and the name of the view, separated by a
 /// space, and the input lines are the arguments of the view. If `words` has no space, it is the
 /// format, and the name is empty. Appends the printed text and, if printing failed, `no` and the
-/// number of the refusal, or `! fault`. Fails only if memory runs out.
+/// number of the refusal, or `! fault`.
 pub fn execute_print_command(
     alloc: Global,
     out: &mut String,
@@ -143,7 +140,7 @@ pub fn execute_print_command(
 // Appends the value of the column at index `at` of a row, after a bar unless `at` is 0. A whole
 // number is written in decimal, after `-` if it is negative, and a text with the escapes of a
 // record. Any other value, for example a null, and the value of a missing column are written as
-// `\x00`. Fails only if memory runs out.
+// `\x00`.
 fn append_cell_text(out: &mut String, row: &Row, at: usize) -> Result<(), AllocError> {
     if at > 0 {
         out.push_str("|")?;
@@ -156,7 +153,7 @@ fn append_cell_text(out: &mut String, row: &Row, at: usize) -> Result<(), AllocE
 }
 
 // Appends a row of a table as an output line: the name of the table, a space, and the values of the
-// columns, separated by bars. Fails only if memory runs out.
+// columns, separated by bars.
 fn append_table_row(out: &mut String, table: &str, row: &Row) -> Result<(), AllocError> {
     write!(out, "> {table} ")?;
     for at in 0..row.column_count() {
@@ -165,7 +162,7 @@ fn append_table_row(out: &mut String, table: &str, row: &Row) -> Result<(), Allo
     out.push_str("\n")
 }
 
-// Appends rows of a table as output lines, in order. Fails only if memory runs out.
+// Appends rows of a table as output lines, in order.
 fn append_table_rows(out: &mut String, table: &str, rows: &[Row]) -> Result<(), AllocError> {
     for row in rows {
         append_table_row(out, table, row)?;
@@ -173,8 +170,8 @@ fn append_table_rows(out: &mut String, table: &str, rows: &[Row]) -> Result<(), 
     Ok(())
 }
 
-// Appends the rows of a table that the query `sql` returns as output lines, or the line
-// `! no table` with the name of the table if the rows cannot be read. Fails only if memory runs out.
+// Appends the rows of a table that the query `sql` returns as output lines, or the line `! no
+// table` with the name of the table if the rows cannot be read.
 fn append_rows_of_table(
     out: &mut String,
     conn: &mut Connection<MemStore>,
@@ -187,15 +184,22 @@ fn append_rows_of_table(
     }
 }
 
-/// Appends the rows of all tables of a desk as output lines: the tables in the order of `TABLES`,
-/// and each sorted by its key, ascending. For a table that cannot be read, appends the line
-/// `! no table` with its name in place of its rows. Fails only if memory runs out.
-pub fn append_rows_of_all_tables(
+fn is_shown(table: &str, names: &str) -> bool {
+    names.is_empty() || names.split(' ').any(|name| name == table)
+}
+
+/// Appends the rows of the tables of a desk that the words `names` name, or of all tables if there is
+/// none, as output lines: the tables in the order of `TABLES`, and each sorted by its key, ascending.
+/// For a table that cannot be read, appends the line `! no table` with its name.
+pub fn append_rows_of_tables(
     out: &mut String,
     conn: &mut Connection<MemStore>,
+    names: &str,
 ) -> Result<(), AllocError> {
     for (table, sql) in &TABLES {
-        append_rows_of_table(out, conn, table, sql)?;
+        if is_shown(table, names) {
+            append_rows_of_table(out, conn, table, sql)?;
+        }
     }
     Ok(())
 }

@@ -3,6 +3,7 @@ use brk_audit::{Sheets, audit_rows};
 use brk_money::Condition;
 use brk_ref::{BrokerRow, check_broker};
 use brk_tests_unit::expect::expect_equal;
+use brk_tests_unit::{Results, run_test};
 use brk_trade_rows::Schema;
 use std::alloc::Global;
 use std::test::Fail;
@@ -45,10 +46,14 @@ fn expect_audit(alloc: Global, trades: i64, wanted: Option<Condition>) -> Result
     expect_equal(audit_rows(alloc, &sheets)?, wanted)
 }
 
-/// Checks the public names of brk_audit: the rows of a desk with a broker without trades pass, and
-/// those with a trade too many fail the condition `Count`. Fails if an answer differs, and if
-/// memory runs out.
-pub fn surface_of_brk_audit(alloc: Global) -> Result<(), Fail> {
+// Checks the public names of brk_audit: the rows of a desk with a broker without trades pass, and
+// those with a trade too many fail the condition `Count`.
+fn surface_of_brk_audit(alloc: Global) -> Result<(), Fail> {
     expect_audit(alloc, 0, None)?;
     expect_audit(alloc, 1, Some(Condition::Count))
+}
+
+pub fn run_tests(rt: &HostRuntime, results: &mut Results) {
+    let alloc = rt.alloc();
+    run_test!(rt, results, surface_of_brk_audit(alloc));
 }

@@ -8,6 +8,7 @@ use brk_ref::{
 };
 use brk_tests_unit::expect::{expect_equal, expect_text};
 use brk_tests_unit::texts::parse_text;
+use brk_tests_unit::{Results, run_test};
 use std::alloc::Global;
 use std::slice;
 use std::test::Fail;
@@ -202,14 +203,18 @@ fn expect_parsed_records(alloc: Global) -> Result<(), Fail> {
     expect_customer_tax()
 }
 
-/// Checks public names of brk_ref: the records and the parsers of their fields, which executor is
-/// permitted, the rate of a quantity, bands that overlap, and the sum of tax rates. Fails if an
-/// answer differs, and if memory runs out.
-pub fn surface_of_brk_ref(alloc: Global) -> Result<(), Fail> {
+// Checks public names of brk_ref: the records and the parsers of their fields, which executor is
+// permitted, the rate of a quantity, bands that overlap, and the sum of tax rates.
+fn surface_of_brk_ref(alloc: Global) -> Result<(), Fail> {
     expect_parsed_records(alloc)?;
     expect_bands(alloc)?;
     expect_tax_sums(alloc)?;
     expect_permitted_executors(alloc)?;
     expect_kept_reply(alloc)?;
     expect_old_cash_row(alloc)
+}
+
+pub fn run_tests(rt: &HostRuntime, results: &mut Results) {
+    let alloc = rt.alloc();
+    run_test!(rt, results, surface_of_brk_ref(alloc));
 }

@@ -1,18 +1,18 @@
 use crate::planned::expect_planned;
-use crate::rows::count_added_rows;
 use brk_lots::Position;
 use brk_money::{Id, Planned, Stamp, Status};
 use brk_ref::check_broker;
 use brk_ref_orders::{Order, Update, parse_executor_update, parse_trade_order};
-use brk_tests_unit::expect::{expect, expect_equal};
+use brk_tests_unit::expect::expect;
 use brk_tests_unit::planned_reply::{expect_planned_reply, expect_reply};
 use brk_tests_unit::plans::{PURCHASE, purchase_facts};
 use brk_tests_unit::result_plans::{
     REPLY_TO_RESULT, SUBMITTED_CASH_PURCHASE, plan_of_result, result_facts, trade_row_of_case,
 };
+use brk_tests_unit::{Results, run_test};
 use brk_trade::{
-    OrderPlanFacts, Plan, Reference, ReferenceFacts, Reply, ResultPlanFacts, TextUpdate,
-    plan_cancel, plan_estimate, plan_order, plan_reference, plan_update,
+    OrderPlanFacts, Reference, ReferenceFacts, Reply, ResultPlanFacts, TextUpdate, plan_cancel,
+    plan_estimate, plan_order, plan_reference, plan_update,
 };
 use std::alloc::Global;
 use std::test::Fail;
@@ -20,13 +20,6 @@ use std::test::Fail;
 // The first millisecond of 2024-03-01 UTC.
 fn clock_reading() -> Stamp {
     Stamp::nearest(1_709_251_200_000)
-}
-
-// The plan has the reply `line`, and adds so many of the rows that are wanted.
-fn expect_plan(alloc: Global, planned: Planned<Plan>, line: &str, rows: usize) -> Result<(), Fail> {
-    let plan = expect_planned(planned)?;
-    expect_reply(alloc, &plan.reply, line)?;
-    expect_equal(count_added_rows(&plan.changes), rows)
 }
 
 // No record has the id of the new record.
@@ -44,7 +37,7 @@ const NEW_RECORD: ReferenceFacts = ReferenceFacts {
 
 fn expect_plan_of_new_record(alloc: Global, record: &Reference) -> Result<(), Fail> {
     let planned = plan_reference(alloc, record, NEW_RECORD, None, clock_reading());
-    expect_plan(alloc, planned, "1709251200000", 1)
+    expect_planned_reply(alloc, planned, "1709251200000")
 }
 
 fn expect_reference_plan(alloc: Global) -> Result<(), Fail> {
@@ -91,14 +84,13 @@ fn expect_estimate_plan(alloc: Global, order: &Order, found: &OrderPlanFacts) ->
     expect_planned_estimate(alloc, plan_estimate(order, found, &mut end))
 }
 
-// The plan adds the trade and its first status.
 fn expect_order_plan(alloc: Global, order: &Order, found: &OrderPlanFacts) -> Result<(), Fail> {
     let position = Position::new(alloc);
     let mut end = position.from_end(false);
     let now = Stamp::nearest(1_709_251_200_016);
     let planned = plan_order(alloc, order, found, &mut end, None, now);
     let line = "1709251200016,1,SBMT,10.00,0.00,0.00,0.00,10.00,5.00,10000.00";
-    expect_plan(alloc, planned, line, 2)
+    expect_planned_reply(alloc, planned, line)
 }
 
 fn expect_plans_of_purchase(alloc: Global, found: &OrderPlanFacts) -> Result<(), Fail> {
@@ -107,11 +99,9 @@ fn expect_plans_of_purchase(alloc: Global, found: &OrderPlanFacts) -> Result<(),
     expect_order_plan(alloc, &order, found)
 }
 
-// The plan adds the second status, the lot with its change, the summary, the settlement and the
-// cash row.
 fn expect_result_plan(alloc: Global, found: &ResultPlanFacts) -> Result<(), Fail> {
     let planned = plan_of_result(alloc, Some(found), Stamp::new(1_709_251_200_016));
-    expect_plan(alloc, planned, REPLY_TO_RESULT, 6)
+    expect_planned_reply(alloc, planned, REPLY_TO_RESULT)
 }
 
 fn expect_plans_over_lots(alloc: Global) -> Result<(), Fail> {
@@ -126,9 +116,13 @@ fn expect_plans_without_lots(alloc: Global) -> Result<(), Fail> {
     expect_update_plan(alloc)
 }
 
-/// Checks the public names of brk_trade: the plans, with their row changes and replies. Fails if an
-/// answer differs, and if memory runs out.
-pub fn surface_of_brk_trade(alloc: Global) -> Result<(), Fail> {
+// Checks the public names of brk_trade: the plans, with their row changes and replies.
+fn surface_of_brk_trade(alloc: Global) -> Result<(), Fail> {
     expect_plans_over_lots(alloc)?;
     expect_plans_without_lots(alloc)
+}
+
+pub fn run_tests(rt: &HostRuntime, results: &mut Results) {
+    let alloc = rt.alloc();
+    run_test!(rt, results, surface_of_brk_trade(alloc));
 }

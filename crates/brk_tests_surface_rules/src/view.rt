@@ -3,6 +3,7 @@ use brk_ref::LotChange;
 use brk_tests_unit::expect::expect_text;
 use brk_tests_unit::result_plans::{SUBMITTED_CASH_PURCHASE, trade_row_of_case};
 use brk_tests_unit::texts::parse_text;
+use brk_tests_unit::{Results, run_test};
 use brk_view::{
     AccountStatus, AccountWorth, BrokerVolume, LotTouch, TouchedLots, View, broker_volume,
     lookup_account, lookup_ids, lookup_lots, lookup_symbol, position, recent, status, submitted,
@@ -20,8 +21,7 @@ fn append_record(told: &mut String, record: &[String]) -> Result<(), AllocError>
     told.push_str("\n")
 }
 
-/// Returns the records of a view as lines, in which each field ends with a comma. Fails only if
-/// memory runs out.
+/// Returns the records of a view as lines, in which each field ends with a comma.
 pub fn format_records(alloc: Global, view: &View) -> Result<String, Fail> {
     let records: Vec<Vec<String>> = view_fields(alloc, view)?;
     let mut told = String::new(alloc);
@@ -31,8 +31,7 @@ pub fn format_records(alloc: Global, view: &View) -> Result<String, Fail> {
     Ok(told)
 }
 
-/// Checks that the records of a view (`format_records`) are the text `wanted`. Fails with both texts
-/// if not. Fails also if memory runs out.
+/// Checks that the records of a view (`format_records`) are the text `wanted`.
 fn expect_records(alloc: Global, view: View, wanted: &str) -> Result<(), Fail> {
     let told = format_records(alloc, &view)?;
     expect_text(told.as_str(), wanted)
@@ -105,13 +104,17 @@ fn expect_touched_lots(alloc: Global) -> Result<(), Fail> {
     expect_records(alloc, lookup_lots(Some(lots)), "1,\n1,1,0,100,\n")
 }
 
-/// Checks the public names of brk_view: the nine views of typed rows, and the records of a view.
-/// Fails if an answer differs, and if memory runs out.
-pub fn surface_of_brk_view(alloc: Global) -> Result<(), Fail> {
+// Checks the public names of brk_view: the nine views of typed rows, and the records of a view.
+fn surface_of_brk_view(alloc: Global) -> Result<(), Fail> {
     expect_worths(alloc)?;
     expect_volumes(alloc)?;
     expect_submitted(alloc)?;
     expect_status(alloc)?;
     expect_no_trades(alloc)?;
     expect_touched_lots(alloc)
+}
+
+pub fn run_tests(rt: &HostRuntime, results: &mut Results) {
+    let alloc = rt.alloc();
+    run_test!(rt, results, surface_of_brk_view(alloc));
 }

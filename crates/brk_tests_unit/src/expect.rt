@@ -11,7 +11,7 @@ pub fn expect<D: Display + Drop>(holds: bool, why: D) -> Result<(), Fail> {
     if holds { Ok(()) } else { Err(Fail::new(why)) }
 }
 
-/// Checks that the value `told` is `wanted`. Fails with both values if not.
+/// Checks that the value `told` is `wanted`.
 pub fn expect_equal<T: PartialEq + Debug + Copy>(told: T, wanted: T) -> Result<(), Fail> {
     expect(
         told == wanted,
@@ -19,13 +19,12 @@ pub fn expect_equal<T: PartialEq + Debug + Copy>(told: T, wanted: T) -> Result<(
     )
 }
 
-/// Checks that the text `told` is `wanted`. Fails with both texts if not.
+/// Checks that the text `told` is `wanted`.
 pub fn expect_text(told: &str, wanted: &str) -> Result<(), Fail> {
     expect(told == wanted, format_args!("{told} instead of {wanted}"))
 }
 
-/// Checks that the value is printed as the text `wanted`. Fails with both texts if not. Fails also
-/// if memory runs out.
+/// Checks that the value is printed as the text `wanted`.
 pub fn expect_printed<T: Display>(alloc: Global, value: &T, wanted: &str) -> Result<(), Fail> {
     let printed = value.to_string(alloc)?;
     expect_text(printed.as_str(), wanted)

@@ -5,16 +5,14 @@ use brk_trade::{Plan, Reply};
 use std::alloc::Global;
 use std::test::Fail;
 
-/// Checks that the fields of a reply, separated by commas, are the text `wanted`. Fails with both
-/// texts if not. Fails also if memory runs out.
+/// Checks that the fields of a reply, separated by commas, are the text `wanted`.
 pub fn expect_reply(alloc: Global, reply: &Reply, wanted: &str) -> Result<(), Fail> {
     let told = line_text(alloc, reply)?;
     expect_text(told.as_str(), wanted)
 }
 
 /// Checks that the reply of a plan (`expect_reply`), or `no,` and the text of its refusal, or the
-/// name of its fault, is the text `wanted`. Fails with both texts if not. Fails also if memory runs
-/// out.
+/// name of its fault, is the text `wanted`.
 pub fn expect_planned_reply(
     alloc: Global,
     planned: Planned<Plan>,

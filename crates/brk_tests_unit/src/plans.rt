@@ -1,21 +1,19 @@
 //! Plans at limits that no desk of the tests reaches: the greatest volume and the last number of a
-//! trade. Also which price triggers which type of order.
+//! trade.
 
-use crate::expect::{expect, expect_some};
 use crate::planned_reply::expect_planned_reply;
 use crate::texts::parse_text;
+use crate::{Results, run_test};
 use brk_lots::Position;
 use brk_money::{Id, Price, Qty, Rate, Stamp, TaxRate, TaxStatus, TradeType, Wide};
 use brk_ref::{ChargeAmount, LastTrade, RequestRow, Volume};
 use brk_ref_orders::{parse_market_feed, parse_trade_order};
-use brk_trade::{
-    OrderAccount, OrderPlanFacts, Quote, is_triggered_at_price, plan_feed, plan_order,
-};
+use brk_trade::{OrderAccount, OrderPlanFacts, Quote, plan_feed, plan_order};
 use std::alloc::Global;
 use std::test::Fail;
 
 // Returns the last trade of ABC, at 10.00, after which 100 more shares may be traded up to the
-// limit of the volume. Fails only if memory runs out.
+// limit of the volume.
 fn last_trade_100_shares_below_volume_limit(alloc: Global) -> Result<LastTrade, Fail> {
     Ok(LastTrade {
         symbol: parse_text(alloc, "ABC")?,
@@ -25,8 +23,7 @@ fn last_trade_100_shares_below_volume_limit(alloc: Global) -> Result<LastTrade, 
     })
 }
 
-// Returns the request of trade 2, a limit buy of 10 shares of ABC at 10.00. Fails only if memory
-// runs out.
+// Returns the request of trade 2, a limit buy of 10 shares of ABC at 10.00.
 fn pending_limit_buy(alloc: Global) -> Result<RequestRow, Fail> {
     Ok(RequestRow {
         trade: Id::new(2).unwrap(),
@@ -38,7 +35,7 @@ fn pending_limit_buy(alloc: Global) -> Result<RequestRow, Fail> {
     })
 }
 
-// Returns a list with one quote, of these two. Fails only if memory runs out.
+// Returns a list with one quote, of these two.
 fn quote_with_pending_limit_buy(alloc: Global) -> Result<Vec<Quote>, Fail> {
     let requests = vec![in alloc; pending_limit_buy(alloc)?]?;
     let last = last_trade_100_shares_below_volume_limit(alloc)?;
@@ -47,8 +44,7 @@ fn quote_with_pending_limit_buy(alloc: Global) -> Result<Vec<Quote>, Fail> {
 
 // Checks that the reply to a feed with the fields `ticks`, the symbol, price and quantity of each
 // tick, on the quote of `quote_with_pending_limit_buy`, or `no,` and the refusal of the feed, is
-// the text `wanted`. There is no last stamp, and the clock reading is 1709251200019. Fails with
-// both texts if not. Fails also if the ticks are malformed, and if memory runs out.
+// the text `wanted`. There is no last stamp, and the clock reading is 1709251200019.
 fn expect_feed_reply(alloc: Global, ticks: &[&[u8]], wanted: &str) -> Result<(), Fail> {
     let now = Stamp::nearest(1_709_251_200_019);
     let feed = parse_market_feed(alloc, ticks)??;
@@ -68,11 +64,10 @@ const FEEDS: [(&[&[u8]], &str); 4] = [
     (&[b"ABC", b"9.50", b"101", b"QQQ", b"1.00", b"1"], "no,4"),
 ];
 
-/// Checks that a feed up to the limit of the volume is accepted and triggers a limit buy, that
-/// feeds of one and of two ticks beyond the limit are refused with `Range` (14), `volume`, and that
-/// a feed beyond the limit with an unknown symbol is refused with `NoSecurity` (4). Fails if not,
-/// and if memory runs out.
-pub fn a_feed_beyond_volume_limit_is_refused(alloc: Global) -> Result<(), Fail> {
+// Checks that a feed up to the limit of the volume is accepted and triggers a limit buy, that feeds
+// of one and of two ticks beyond the limit are refused with `Range` (14), `volume`, and that a feed
+// beyond the limit with an unknown symbol is refused with `NoSecurity` (4).
+fn a_feed_beyond_volume_limit_is_refused(alloc: Global) -> Result<(), Fail> {
     for (ticks, wanted) in &FEEDS {
         expect_feed_reply(alloc, ticks, wanted)?;
     }
@@ -109,8 +104,7 @@ pub const PURCHASE: [&[u8]; 10] = [
 
 // Checks that the reply to the order `PURCHASE` with `trades` as the last trade id
 // (`purchase_facts`), on a position without lots, or `no,` and the refusal of the order, is the
-// text `wanted`. There is no last stamp, and the clock reading is 1709251200020. Fails with both
-// texts if not. Fails also if memory runs out.
+// text `wanted`. There is no last stamp, and the clock reading is 1709251200020.
 fn expect_purchase_reply(alloc: Global, trades: u64, wanted: &str) -> Result<(), Fail> {
     let found = purchase_facts(trades);
     let order = parse_trade_order(alloc, &PURCHASE)??;
@@ -121,45 +115,20 @@ fn expect_purchase_reply(alloc: Global, trades: u64, wanted: &str) -> Result<(),
     expect_planned_reply(alloc, planned, wanted)
 }
 
-/// Checks that an order after 10^12 - 1 trades is accepted as the trade with the greatest id,
-/// 10^12, and that an order after 10^12 trades is refused with `Range` (14), `trades`. Fails if
-/// not, and if memory runs out.
-pub fn an_order_beyond_greatest_trade_id_is_refused(alloc: Global) -> Result<(), Fail> {
+// Checks that an order after 10^12 - 1 trades is accepted as the trade with the greatest id, 10^12,
+// and that an order after 10^12 trades is refused with `Range` (14), `trades`.
+fn an_order_beyond_greatest_trade_id_is_refused(alloc: Global) -> Result<(), Fail> {
     let last = "1709251200020,1000000000000,SBMT,10.00,0.00,0.00,0.00,10.00,5.00,10000.00";
     expect_purchase_reply(alloc, 999_999_999_999, last)?;
     expect_purchase_reply(alloc, 1_000_000_000_000, "no,14,trades")
 }
 
-// Checks that a price of `cents` cents triggers a pending trade of the type `kind` with a bid of
-// 10.00 if `wanted` is true, and that it does not if `wanted` is false. Fails with the type and the
-// price if not. Fails also if the price is not within its limits.
-fn expect_trigger(kind: TradeType, cents: u32, wanted: bool) -> Result<(), Fail> {
-    let bid = Price::new(1_000).unwrap();
-    let price = expect_some(Price::new(cents), "price")?;
-    let told = is_triggered_at_price(kind, bid, price);
-    expect(
-        told == wanted,
-        format_args!("{kind:?} at {price}: {told} instead of {wanted}"),
-    )
-}
-
-// Types of trades, each with whether a price below, at and above its bid triggers it.
-const TRIGGERS: [(TradeType, bool, bool, bool); 5] = [
-    (TradeType::StopLoss, true, true, false),
-    (TradeType::LimitSell, false, true, true),
-    (TradeType::LimitBuy, true, true, false),
-    (TradeType::MarketBuy, false, false, false),
-    (TradeType::MarketSell, false, false, false),
-];
-
-/// Checks, at a bid of 10.00, that a stop-loss and a limit buy are triggered by the prices 9.99 and
-/// 10.00 and not by 10.01, that a limit sell is triggered by 10.00 and 10.01 and not by 9.99, and
-/// that none of these prices triggers a market order. Fails if not.
-pub fn prices_trigger_pending_trades() -> Result<(), Fail> {
-    for (kind, is_below, is_at, is_above) in &TRIGGERS {
-        expect_trigger(*kind, 999, *is_below)?;
-        expect_trigger(*kind, 1_000, *is_at)?;
-        expect_trigger(*kind, 1_001, *is_above)?;
-    }
-    Ok(())
+pub fn run_tests(rt: &HostRuntime, results: &mut Results) {
+    let alloc = rt.alloc();
+    run_test!(rt, results, a_feed_beyond_volume_limit_is_refused(alloc));
+    run_test!(
+        rt,
+        results,
+        an_order_beyond_greatest_trade_id_is_refused(alloc)
+    );
 }

@@ -1,6 +1,7 @@
 use crate::expect::expect_some;
 use crate::planned_reply::expect_planned_reply;
 use crate::texts::parse_text;
+use crate::{Results, run_test};
 use brk_lots::Position;
 use brk_money::{Cents, Id, MoveId, Planned, Price, Qty, Rate, Stamp, Status, TaxRate, TradeType};
 use brk_ref::{
@@ -47,7 +48,7 @@ pub const SUBMITTED_CASH_PURCHASE: Case = Case {
 
 /// Returns the TRADE row of the trade of a case, with the id 1, the account 100, a bid of 10.00, a
 /// charge of 5.00, a commission of 10.00, a tax of 0 and no price, which closes the oldest lots
-/// first. Fails if the quantity is not within its limits, and if memory runs out.
+/// first.
 pub fn trade_row_of_case(alloc: Global, case: &Case) -> Result<TradeRow, Fail> {
     let (id, account) = (Id::new(1).unwrap(), Id::new(100).unwrap());
     let bid = Price::new(1_000).unwrap();
@@ -74,7 +75,7 @@ pub fn trade_row_of_case(alloc: Global, case: &Case) -> Result<TradeRow, Fail> {
 }
 
 // Returns the row of account 100, with broker 1, the tax status `Withheld`, and the balance of the
-// case. Fails if the balance is not within its limits, and if memory runs out.
+// case.
 fn account_of_case(alloc: Global, case: &Case) -> Result<AccountRow, Fail> {
     let fields: [&[u8]; 6] = [b"100", b"10", b"1", b"Acc", b"1", b"10000.00"];
     let balance = expect_some(Cents::new(case.balance), "balance")?;
@@ -82,7 +83,7 @@ fn account_of_case(alloc: Global, case: &Case) -> Result<AccountRow, Fail> {
     Ok(AccountRow { account, balance })
 }
 
-// Returns the row of broker 1 before the result of a case. Fails only if memory runs out.
+// Returns the row of broker 1 before the result of a case.
 fn broker_of_case(alloc: Global, case: &Case) -> Result<BrokerRow, Fail> {
     Ok(BrokerRow {
         broker: check_broker(alloc, &[b"1", b"Bo"])??,
@@ -92,7 +93,7 @@ fn broker_of_case(alloc: Global, case: &Case) -> Result<BrokerRow, Fail> {
 }
 
 // Returns the account and the broker of a case, with a customer of tier 1 whose tax rates are 20
-// percent in all. Fails if the balance is not within its limits, and if memory runs out.
+// percent in all.
 fn parties_of_case(alloc: Global, case: &Case) -> Result<TradeParties, Fail> {
     Ok(TradeParties {
         account: account_of_case(alloc, case)?,
@@ -102,8 +103,7 @@ fn parties_of_case(alloc: Global, case: &Case) -> Result<TradeParties, Fail> {
     })
 }
 
-// Returns the summary of ABC in account 100 with the shares held in a case, if any. Fails only if
-// memory runs out.
+// Returns the summary of ABC in account 100 with the shares held in a case, if any.
 fn summary_of_case(alloc: Global, case: &Case) -> Result<Option<SummaryRow>, Fail> {
     let Some(qty) = case.held else {
         return Ok(None);
@@ -115,8 +115,7 @@ fn summary_of_case(alloc: Global, case: &Case) -> Result<Option<SummaryRow>, Fai
     }))
 }
 
-// Returns the security ABC with the rate of a case, if any. Fails if the rate is not within its
-// limits, and if memory runs out.
+// Returns the security ABC with the rate of a case, if any.
 fn security_of_case(alloc: Global, case: &Case) -> Result<TradedSecurity, Fail> {
     let fields: [&[u8]; 5] = [b"ABC", b"Acme", b"NYSE", b"Tech", b"10.00"];
     let rate = match case.rate {
@@ -129,8 +128,7 @@ fn security_of_case(alloc: Global, case: &Case) -> Result<TradedSecurity, Fail> 
 
 /// Returns the facts of the tables on which the plan for the result of a case depends, with tax
 /// rates of 20 percent in all, no first day of one-day settlement, and 1 as the number of the next
-/// cash row. Fails if the quantity, the rate or the balance of the case is not within its limits,
-/// and if memory runs out; the shares held and the broker's totals are not checked.
+/// cash row.
 pub fn result_facts(alloc: Global, case: &Case) -> Result<ResultPlanFacts, Fail> {
     Ok(ResultPlanFacts {
         trade: trade_row_of_case(alloc, case)?,
@@ -160,8 +158,7 @@ pub fn plan_of_result(
 }
 
 // Checks that the reply to a result (`plan_of_result`), or `no,` and the refusal of the result, or
-// the name of its fault, is the text `wanted`. Fails with both texts if not, and if memory runs
-// out.
+// the name of its fault, is the text `wanted`.
 fn expect_result_reply(
     alloc: Global,
     found: Option<&ResultPlanFacts>,
@@ -174,16 +171,14 @@ fn expect_result_reply(
 
 // Checks that the reply to the result of the trade of a case, or `no,` and the refusal of the
 // result, or the name of its fault, is the text `wanted`. If the last stamp of the case is not
-// within its limits, there is none. Fails with both texts if not. Fails also if `result_facts`
-// fails, and if memory runs out.
+// within its limits, there is none.
 fn expect_case_reply(alloc: Global, case: &Case, wanted: &str) -> Result<(), Fail> {
     let found = result_facts(alloc, case)?;
     expect_result_reply(alloc, Some(&found), Stamp::new(case.last), wanted)
 }
 
-/// Checks that a result for a trade that does not exist is refused with `NoTrade` (5). Fails if
-/// not, and if memory runs out.
-pub fn a_result_without_a_trade_is_refused(alloc: Global) -> Result<(), Fail> {
+// Checks that a result for a trade that does not exist is refused with `NoTrade` (5).
+fn a_result_without_a_trade_is_refused(alloc: Global) -> Result<(), Fail> {
     expect_result_reply(alloc, None, None, "no,5")
 }
 
@@ -263,11 +258,11 @@ const CAUSES: [(Case, &str); 10] = [
     ),
 ];
 
-/// Checks that the submitted purchase is accepted, and that a result with one or more causes to be
-/// refused is refused by the first one that applies, in this order: the status of the trade (13),
-/// its commission band (11), the limits of the shares held, the balance and the broker (14), and
-/// the last stamp (21). Fails if not, and if memory runs out.
-pub fn results_are_refused_by_the_first_cause(alloc: Global) -> Result<(), Fail> {
+// Checks that the submitted purchase is accepted, and that a result with one or more causes to be
+// refused is refused by the first one that applies, in this order: the status of the trade (13),
+// its commission band (11), the limits of the shares held, the balance and the broker (14), and the
+// last stamp (21).
+fn results_are_refused_by_the_first_cause(alloc: Global) -> Result<(), Fail> {
     for (case, wanted) in &CAUSES {
         expect_case_reply(alloc, case, wanted)?;
     }
@@ -302,11 +297,10 @@ const LIMITS: [(Case, &str); 3] = [
     ),
 ];
 
-/// Checks that a result that reaches the limit of the broker's commissions is accepted, that one
-/// that exceeds it by one cent is refused with `Range` (14), `broker`, and that the result of a
-/// margin trade, which does not change the balance, is accepted at the lower limit of the balance.
-/// Fails if not, and if memory runs out.
-pub fn results_respect_broker_and_balance_limits(alloc: Global) -> Result<(), Fail> {
+// Checks that a result that reaches the limit of the broker's commissions is accepted, that one
+// that exceeds it by one cent is refused with `Range` (14), `broker`, and that the result of a
+// margin trade, which does not change the balance, is accepted at the lower limit of the balance.
+fn results_respect_broker_and_balance_limits(alloc: Global) -> Result<(), Fail> {
     for (case, wanted) in &LIMITS {
         expect_case_reply(alloc, case, wanted)?;
     }
@@ -319,10 +313,9 @@ const GREATEST_TRADE_COUNT: i64 = 1_000_000_000_000;
 // Numbers of completed trades that no broker can have.
 const IMPOSSIBLE_TRADE_COUNTS: [i64; 4] = [i64::MIN, -1, GREATEST_TRADE_COUNT + 1, i64::MAX];
 
-/// Checks that a result is planned if the broker's number of completed trades is the greatest, and
-/// that it fails with `Store` if the number is out of range, whatever else would refuse it. Fails if
-/// not, and if memory runs out.
-pub fn a_result_needs_a_possible_number_of_trades(alloc: Global) -> Result<(), Fail> {
+// Checks that a result is planned if the broker's number of completed trades is the greatest, and
+// that it fails with `Store` if the number is out of range, whatever else would refuse it.
+fn a_result_needs_a_possible_number_of_trades(alloc: Global) -> Result<(), Fail> {
     let greatest = Case {
         trades: GREATEST_TRADE_COUNT,
         ..SUBMITTED_CASH_PURCHASE
@@ -357,10 +350,9 @@ const SUMMARIES: [(TradeType, i64, u32, &str); 4] = [
     (TradeType::LimitSell, -9_999_999_000, 1_000, "no,14,summary"),
 ];
 
-/// Checks that a result that reaches the limit of the shares held, bought or sold short, is
-/// accepted, and that one that exceeds it by one share is refused with `Range` (14), `summary`.
-/// Fails if not, and if memory runs out.
-pub fn results_respect_holding_summary_limits(alloc: Global) -> Result<(), Fail> {
+// Checks that a result that reaches the limit of the shares held, bought or sold short, is
+// accepted, and that one that exceeds it by one share is refused with `Range` (14), `summary`.
+fn results_respect_holding_summary_limits(alloc: Global) -> Result<(), Fail> {
     for (kind, held, qty, wanted) in &SUMMARIES {
         let case = Case {
             kind: *kind,
@@ -371,4 +363,21 @@ pub fn results_respect_holding_summary_limits(alloc: Global) -> Result<(), Fail>
         expect_case_reply(alloc, &case, wanted)?;
     }
     Ok(())
+}
+
+pub fn run_tests(rt: &HostRuntime, results: &mut Results) {
+    let alloc = rt.alloc();
+    run_test!(rt, results, a_result_without_a_trade_is_refused(alloc));
+    run_test!(rt, results, results_are_refused_by_the_first_cause(alloc));
+    run_test!(
+        rt,
+        results,
+        results_respect_broker_and_balance_limits(alloc)
+    );
+    run_test!(rt, results, results_respect_holding_summary_limits(alloc));
+    run_test!(
+        rt,
+        results,
+        a_result_needs_a_possible_number_of_trades(alloc)
+    );
 }

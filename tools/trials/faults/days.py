@@ -1,9 +1,5 @@
 """Random days for a desk that examples/setting.csv set up: rows that are answered alike however often the day is sent."""
 
-import pathlib
-
-TOP = pathlib.Path(__file__).resolve().parents[3]
-SETTING = (TOP / "examples" / "setting.csv").read_text().splitlines()[1:-1]
 PRICES = ("8.00", "9.50", "10.00", "10.01", "12.00", "14.37")
 REFUSED = ("deposit,999,1.00", "order,100,TMB,XYZ,1,,cash,fifo,Ann,Lee,T10", "cancel,999")
 

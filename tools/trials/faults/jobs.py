@@ -1,28 +1,27 @@
 """The sendings that the trials of this folder disturb, made from a seed, and the arguments of the trials."""
 
-import argparse
 import os
 import random
 import sys
 import tempfile
 
+import cases
 import states
-from days import REFUSED, SETTING, day_of
-from sendings import TOP, WELL, Audit, Program, Sending, found, placed
+from cases import OLDER, SETTING, WELL
+from days import REFUSED, day_of
+from sendings import Audit, Program, Sending, found, placed
 
-OLDER = TOP / "tools" / "trials" / "older"
 DAY_ROWS, LONG_ROWS = 40, 150
 
 
 def arguments(doc, **numbers):
     """The arguments of a trial: the program, the folder, and numbers with their defaults."""
-    words = argparse.ArgumentParser(description=doc, formatter_class=argparse.RawDescriptionHelpFormatter)
-    words.add_argument("--brk", default=os.environ.get("BRK") or str(TOP / "brk"), metavar="PROGRAM")
+    words = cases.arguments(doc, **{"seed": 1, "workers": 2, **numbers})
     words.add_argument("--folder", default="/dev/shm" if os.path.isdir("/dev/shm") else None, metavar="FOLDER")
     words.add_argument("--cc", default="cc", metavar="COMPILER")
-    for name, default in {"seed": 1, "workers": 2, **numbers}.items():
-        words.add_argument(f"--{name}", type=int, default=default, metavar="N")
-    return words.parse_args()
+    given = words.parse_args()
+    cases.require(given.cc)
+    return given
 
 
 def in_folder(trial, given):
@@ -37,7 +36,7 @@ def in_folder(trial, given):
 def desk_of(program):
     """The file of a desk that was set up, closed, and its log."""
     path = program.path("set.db")
-    ended = program.batch(path, "".join(f"{row}\n" for row in ["batch,SET", *SETTING, f"end,{len(SETTING)}"]).encode())
+    ended = program.batch(path, SETTING)
     if ended.how != WELL:
         sys.exit(f"the desk was not set up: {ended.how}")
     return found(path)
@@ -56,7 +55,7 @@ def jobs_of(program, seed):
     """A new desk, a day, two upgrades, and a day with a checkpoint of its log in it."""
     rng, desk = random.Random(seed), desk_of(program)
     return {
-        "a new desk": Sending(program, "SET", SETTING),
+        "a new desk": Sending(program, "SET", SETTING.decode().splitlines()[1:-1]),
         "a day": day(program, "DAY", rng, DAY_ROWS, desk),
         "schema 1": Audit(program, "FIRST", {"d": (OLDER / "first.db").read_bytes()}),
         "schema 2": Audit(program, "SECOND", {"d": (OLDER / "second.db").read_bytes()}),

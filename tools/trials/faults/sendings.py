@@ -17,12 +17,9 @@ import sqlite3
 import subprocess
 import threading
 
+from cases import MOMENT as CLOCK, SCHEMA, SECONDS, WELL, batch_of
+
 HERE = pathlib.Path(__file__).resolve().parent
-TOP = HERE.parents[2]
-CLOCK = "1709251200000"
-WELL = (0, "")
-SCHEMA = (1, "brk: damaged: schema\n")
-SECONDS = 120
 
 
 class Wrong(Exception):
@@ -148,7 +145,7 @@ class Sending:
 
     def batch(self, count=None):
         rows = self.rows[:count]
-        return "".join(f"{row}\n" for row in [f"batch,{self.name}", *rows, f"end,{len(rows)}"]).encode()
+        return batch_of(self.name, rows)
 
     def dump(self, count):
         """The tables after so many rows."""

@@ -10,19 +10,12 @@ import sys
 import time
 
 import states
+from cases import SECONDS, STORE, free_port
 from sendings import CLOCK, Wrong, as_first, expect, placed
 
 CALLS = "wsto"
 STREAMS = 400
-SECONDS = 120
 PATIENCE = 6
-STORE = (3, "brk: fault: store\n")
-
-
-def free_port():
-    with socket.socket() as free:
-        free.bind(("127.0.0.1", 0))
-        return free.getsockname()[1]
 
 
 class Server:

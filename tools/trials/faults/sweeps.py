@@ -5,17 +5,18 @@ import concurrent.futures
 import sys
 import threading
 
+from cases import Cases
 from sendings import Wrong, removed
 
 MOST_WRONG = 20
 
 
-class Sweep:
+class Sweep(Cases):
     """What came of all cases so far."""
 
     def __init__(self, program, workers):
+        super().__init__(program.brk)
         self.program, self.workers = program, workers
-        self.tried = self.wrong = 0
 
     def tally(self, cases, one, most):
         """Calls `one(case, path)` for each case. It returns the words under which the case is counted, or raises Wrong."""
@@ -47,8 +48,8 @@ class Sweep:
     def sweep(self, title, cases, one):
         """Tries cases that all have to be right, and prints what came of them."""
         counts, wrongs = self.tally(cases, one, MOST_WRONG)
-        self.tried += counts["tried"]
-        self.wrong += len(wrongs)
+        self.passed += counts["tried"]
+        self.failed += len(wrongs)
         told = ", ".join(f"{count} {words}" for words, count in sorted(counts.items()) if words != "tried")
         print(f"{'WRONG' if wrongs else 'ok   '} {title}: {counts['tried']} tried: {told or 'none'}", flush=True)
         for wrong in sorted(wrongs):
@@ -58,10 +59,4 @@ class Sweep:
         """Tries cases of which some have to be wrong: the checks of the trial find losses."""
         cases = list(cases)
         _, wrongs = self.tally(cases, one, sys.maxsize)
-        if not wrongs:
-            self.wrong += 1
-        print(f"{'ok   ' if wrongs else 'WRONG'} control, {title}: {len(wrongs)} of {len(cases)} found wrong, as they have to be", flush=True)
-
-    def end(self, what):
-        print(f"{self.tried} {what}, {self.wrong} wrong")
-        return 1 if self.wrong else 0
+        self.tell(f"control, {title}: {len(wrongs)} of {len(cases)} found wrong, as some have to be", wrongs != [])

@@ -10,6 +10,7 @@ use brk_tests_desks::desks::{
 use brk_tests_desks::faulty::{Cut, Failing, Narrow};
 use brk_tests_desks::tables::expect_all_tables;
 use brk_tests_unit::expect::expect;
+use brk_tests_unit::{Results, run_test};
 use sqlite::{Alter, Connection};
 use std::alloc::Global;
 use std::io::ErrorKind;
@@ -158,10 +159,10 @@ fn expect_retries(alloc: Global, cuts: &[Cut], places: usize) -> Result<(), Fail
     Ok(())
 }
 
-/// Checks, for each position of a stream, its end included, at which the reader fails or is
-/// interrupted, that the stream fails with `Read` after the replies to the requests that were read
-/// whole, and that a retry completes.
-pub fn a_stream_can_be_retried_after_a_read_fault(alloc: Global) -> Result<(), Fail> {
+// Checks, for each position of a stream, its end included, at which the reader fails or is
+// interrupted, that the stream fails with `Read` after the replies to the requests that were read
+// whole, and that a retry completes.
+fn a_stream_can_be_retried_after_a_read_fault(alloc: Global) -> Result<(), Fail> {
     let cuts = [
         Cut::Reader(ErrorKind::Interrupted),
         Cut::Reader(ErrorKind::ConnectionReset),
@@ -169,14 +170,28 @@ pub fn a_stream_can_be_retried_after_a_read_fault(alloc: Global) -> Result<(), F
     expect_retries(alloc, &cuts, REQUESTS.len() + 1)
 }
 
-/// Checks, for each byte of the replies of a stream at which the writer fails, is interrupted or
-/// accepts no byte, that the stream fails with `Write`, that exactly the bytes before are written,
-/// and that a retry completes.
-pub fn a_stream_can_be_retried_after_a_write_fault(alloc: Global) -> Result<(), Fail> {
+// Checks, for each byte of the replies of a stream at which the writer fails, is interrupted or
+// accepts no byte, that the stream fails with `Write`, that exactly the bytes before are written,
+// and that a retry completes.
+fn a_stream_can_be_retried_after_a_write_fault(alloc: Global) -> Result<(), Fail> {
     let cuts = [
         Cut::Writer(None),
         Cut::Writer(Some(ErrorKind::BrokenPipe)),
         Cut::Writer(Some(ErrorKind::Interrupted)),
     ];
     expect_retries(alloc, &cuts, REPLIES.len())
+}
+
+pub fn run_tests(rt: &HostRuntime, results: &mut Results) {
+    let alloc = rt.alloc();
+    run_test!(
+        rt,
+        results,
+        a_stream_can_be_retried_after_a_read_fault(alloc)
+    );
+    run_test!(
+        rt,
+        results,
+        a_stream_can_be_retried_after_a_write_fault(alloc)
+    );
 }

@@ -6,6 +6,7 @@ use brk_http::{
 };
 use brk_tests_desks::desks::{Still, desk_with_reference_data, open_in_memory};
 use brk_tests_unit::expect::expect;
+use brk_tests_unit::{Results, run_test};
 use sqlite::{Alter, Connection};
 use std::alloc::Global;
 use std::test::Fail;
@@ -92,10 +93,10 @@ fn expect_two_streams_served<S: Alter + Drop>(
     expect(served == Err(ListenFault::Net), "no stream")
 }
 
-/// Checks that two peers are served in sequence on one desk in memory, that the one that sends an
-/// order and the one that sends a query each receive exactly their reply, and that serving fails
-/// with `Net` once no peer is left. Fails also if the desk cannot be set up or memory runs out.
-pub fn peers_in_memory_receive_their_replies(alloc: Global) -> Result<(), Fail> {
+// Checks that two peers are served in sequence on one desk in memory, that the one that sends an
+// order and the one that sends a query each receive exactly their reply, and that serving fails
+// with `Net` once no peer is left.
+fn peers_in_memory_receive_their_replies(alloc: Global) -> Result<(), Fail> {
     let (mut first, mut second) = (Vec::new(alloc), Vec::new(alloc));
     let mut waiting = Vec::new(alloc);
     waiting.push(MemoryPeer {
@@ -109,4 +110,9 @@ pub fn peers_in_memory_receive_their_replies(alloc: Global) -> Result<(), Fail> 
     expect_two_streams_served(alloc, open_in_memory(alloc), waiting)?;
     expect(first.as_slice() == ORDER.1.as_bytes(), "the order")?;
     expect(second.as_slice() == QUERY.1.as_bytes(), "the query")
+}
+
+pub fn run_tests(rt: &HostRuntime, results: &mut Results) {
+    let alloc = rt.alloc();
+    run_test!(rt, results, peers_in_memory_receive_their_replies(alloc));
 }

@@ -5,6 +5,7 @@ use brk_http::ServeFault;
 use brk_tests_desks::desks::{desk_with_reference_data, open_in_memory, serve_stream_of_reader};
 use brk_tests_desks::faulty::Failing;
 use brk_tests_unit::expect::expect;
+use brk_tests_unit::{Results, run_test};
 use sqlite::{Alter, Connection};
 use std::alloc::{AllocError, Global};
 use std::test::Fail;
@@ -117,9 +118,9 @@ fn expect_replies_when_split(alloc: Global, bytes: &[u8], wanted: &[&str]) -> Re
     Ok(())
 }
 
-/// Checks that each stream of `STREAMS` has its replies, whether its bytes arrive in pieces of
-/// 4,096, of seven or of one.
-pub fn streams_in_pieces_get_the_same_replies(alloc: Global) -> Result<(), Fail> {
+// Checks that each stream of `STREAMS` has its replies, whether its bytes arrive in pieces of
+// 4,096, of seven or of one.
+fn streams_in_pieces_get_the_same_replies(alloc: Global) -> Result<(), Fail> {
     for (input, wanted) in STREAMS {
         expect_replies_when_split(alloc, input.as_bytes(), wanted)?;
     }
@@ -128,7 +129,7 @@ pub fn streams_in_pieces_get_the_same_replies(alloc: Global) -> Result<(), Fail>
 
 // Returns an HTTP request for the submitted trades with a head of `len` bytes: its last header
 // field is as long as needed. `len` must be at least the length of the head without the value of
-// this field. Fails only if memory runs out.
+// this field.
 fn request_with_head_of_length(alloc: Global, len: usize) -> Result<String, AllocError> {
     let front = "POST /ask/submitted HTTP/1.1\r\nContent-Length: 2\r\nX: ";
     let mut head = String::from_str(alloc, front)?;
@@ -139,13 +140,54 @@ fn request_with_head_of_length(alloc: Global, len: usize) -> Result<String, Allo
     Ok(head)
 }
 
-/// Checks that a request with a head of 16,384 bytes has its reply, and that one with a head of
-/// 16,385 bytes has the reply 413, which ends its stream, for each size of pieces.
-pub fn a_head_has_at_most_16_384_bytes(alloc: Global) -> Result<(), Fail> {
+// Checks that a request with a head of 16,384 bytes has its reply, and that one with a head of
+// 16,385 bytes has the reply 413, which ends its stream, for each size of pieces.
+fn a_head_has_at_most_16_384_bytes(alloc: Global) -> Result<(), Fail> {
     for (len, wanted) in [(16_384, EMPTY), (16_385, LARGE)] {
         let input = request_with_head_of_length(alloc, len)?;
         expect(input.len() == len + 2, "the length of the request")?;
         expect_replies_when_split(alloc, input.as_bytes(), &[wanted])?;
     }
     Ok(())
+}
+
+const REQUEST: &str = "POST /ask/submitted HTTP/1.1\r\nContent-Length: 2\r\n\r\n[]";
+
+fn repeat_request(alloc: Global, count: u64) -> Result<String, AllocError> {
+    let mut input = String::new(alloc);
+    for _ in 0..count {
+        input.push_str(REQUEST)?;
+    }
+    Ok(input)
+}
+
+// Returns the replies to the most requests that a stream has: the last one ends it.
+fn replies_to_thousand_requests(alloc: Global) -> Result<Vec<&'static str>, AllocError> {
+    let mut replies = Vec::new(alloc);
+    for _ in 0..999u64 {
+        replies.push(EMPTY)?;
+    }
+    replies.push(SAID)?;
+    Ok(replies)
+}
+
+// Checks that the reply to the thousandth request of a stream ends it, and that the request after
+// it has no reply.
+fn a_stream_has_at_most_1_000_requests(alloc: Global) -> Result<(), Fail> {
+    let input = repeat_request(alloc, 1_001)?;
+    let wanted = replies_to_thousand_requests(alloc)?;
+    expect_replies_in_pieces(
+        alloc,
+        open_in_memory(alloc),
+        input.as_bytes(),
+        &wanted,
+        4096,
+    )
+}
+
+pub fn run_tests(rt: &HostRuntime, results: &mut Results) {
+    let alloc = rt.alloc();
+    run_test!(rt, results, streams_in_pieces_get_the_same_replies(alloc));
+    run_test!(rt, results, a_stream_has_at_most_1_000_requests(alloc));
+    run_test!(rt, results, a_head_has_at_most_16_384_bytes(alloc));
 }
