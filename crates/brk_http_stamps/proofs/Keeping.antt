@@ -1,5 +1,11 @@
 -- The stamp that is kept over calls is the last stamp of their base.
 use Rattle.std.proofs.Common.{◌≡◌, ℕ, List, [], ◌∷◌, ◌++◌, map, Option, refl, ap, sym, ◌∙◌}
+use Rattle.std.specs.Prelude.{Result, Ok, Err}
+use Rattle.brk_money.specs.declared.fault.Fault.{Fault}
+use Rattle.brk_money.specs.declared.refusal.Refusal.{Refusal}
+use Rattle.brk_http_engine.specs.Codes.{query_outcome_in_model}
+use Rattle.brk_view_rows.specs.Views.{records_of_view}
+use Rattle.brk_view_rows.specs.declared.view.View.{View}
 use Rattle.brk_desk.specs.Answers.{model_outcome}
 use Rattle.brk_desk.specs.declared.call.Outcome as came
 use Rattle.brk_model.specs.Base.{Base}
@@ -31,6 +37,12 @@ run_keeps [] (outcome ∷ outcomes) base after r = absurd r
 run_keeps (call ∷ calls) [] base after r = absurd r
 run_keeps (call ∷ calls) (outcome ∷ outcomes) base after r =
     run_keeps calls outcomes r.0 after r.2 ∙ ap (λ last. stamp_after_outcomes last outcomes) (outcome_keeps base call.0 call.1 outcome r.0 r.1)
+
+-- a query books nothing
+pub query_keeps : (kept : Option ℕ) (result : Result (Result View Refusal) Fault) → kept ≡ stamp_after_outcome kept (query_outcome_in_model records_of_view result)
+query_keeps kept (Ok (Ok view)) = refl
+query_keeps kept (Ok (Err refusal)) = refl
+query_keeps kept (Err fault) = refl
 
 -- the outcomes of one sequence and then those of another
 pub after_both : (kept : Option ℕ) (outcomes more : List came.Outcome)

@@ -1,11 +1,9 @@
 -- What is done by a desk that keeps the stamp of its replies, without the stamp.
-use Rattle.std.proofs.Common.{◌≡◌, ℕ, List, [], ◌∷◌, Option, Some, None, IfSome, refl, ap, inl, inr, subst, sym}
+use Rattle.std.proofs.Common.{◌≡◌, ℕ, List, [], ◌∷◌, Some, None, refl, ap, subst, sym}
 use Rattle.std.specs.Prelude.{Result, Ok, Err}
 use Rattle.sqlite_trees.specs.declared.store.Store.{Ghosts}
-use Rattle.sqlite.specs.Held.{Held, state}
-use Rattle.sqlite.specs.State.{HasCleanDisk}
-use Rattle.brk_store_transactions.specs.Audited.{Represents}
-use Rattle.brk_model.specs.Run.{Call, IsOutcomeOfCall, Outcome}
+use Rattle.sqlite.specs.Held.{Held}
+use Rattle.brk_model.specs.Run.{Call, Outcome}
 use Rattle.brk_model_http.specs.Asked.{model_parsers}
 use Rattle.brk_money.specs.Spelling.{Text}
 use Rattle.brk_io.specs.Calls.{IsCallSequence}
@@ -19,8 +17,7 @@ use Rattle.brk_http_engine.specs.Turns.{IsStreamResult}
 use Rattle.brk_http_engine.specs.declared.listen_faults.ListenFault.{ListenFault}
 use Rattle.brk_http_engine.specs.declared.listen_faults.ListenFault.TheVariants.{Stream, Net}
 use Rattle.brk_http.specs.CallOutcomes.{DeskCallHasOutcome}
-use Rattle.brk_http.specs.Served.{DeskServesPeer}
-use Rattle.brk_http_stamps.specs.Stamped.{StampedCallHasOutcome, StampedDeskServesStream}
+use Rattle.brk_http_stamps.specs.Stamped.{StampedCallHasOutcome}
 use Rattle.brk_http_stamps.specs.declared.stamped_desk.StampedDesk.{StampedDesk}
 
 -- ---- calls
@@ -57,11 +54,6 @@ module _ {S : Type 0} (g : Ghosts S) where
         (to.desk, refl, subst (λ (d : Held S). DeskOutcome d now call outcome to.desk) (sym is) acted.called))
         gives input old new outside result h tt old.desk refl in
         subst (λ (d : Held S). IsStreamResult model_parsers DeskOutcome gives input (environment_change_with_bases old.desk d outside) result) r.1 r.2
-
-    pub refines_at_desk : (input : Text) (old new : Held S) (outside : ClockAndWriterChange C) (result : Result ℕ ServeFault)
-        → IsStreamResult model_parsers DeskOutcome gives input (environment_change_with_bases old new outside) result
-        → Unit {0}
-    refines_at_desk input old new outside result h = tt
 
 -- ---- streams of a listener
 
