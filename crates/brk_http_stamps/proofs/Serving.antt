@@ -59,7 +59,7 @@ module _ {S C : Type 0} (g : Ghosts S) (gives : C → ℕ → C → Type 0) wher
       }
 
   -- The peer was served by the desk, which kept the stamp, or its stream could not be prepared.
-  abbrev ServesStampedPeer : {P : Type 0} → (P → Option Text) → (P → Option Text) → C → StampedDesk S → P → Result ℕ ServeFault → P → C → StampedDesk S → Type 0
+  abbrev pub ServesStampedPeer : {P : Type 0} → (P → Option Text) → (P → Option Text) → C → StampedDesk S → P → Result ℕ ServeFault → P → C → StampedDesk S → Type 0
   ServesStampedPeer sends received =
       ServesPeer {C = C} {D = StampedDesk S} (λ bytes clock old ended later new. StampedDeskServesStream g gives bytes clock old ended later new) sends received
 

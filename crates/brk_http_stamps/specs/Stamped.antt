@@ -19,8 +19,8 @@ use Rattle.brk_io.specs.declared.stream_fault.ServeFault.{ServeFault}
 use Rattle.brk_http_stamps.specs.Stamps.{stamp_after_outcome, stamp_after_outcomes}
 use Rattle.brk_http_stamps.specs.declared.stamped_desk.StampedDesk.{StampedDesk}
 
--- A call had an outcome as of any desk (`DeskCallHasOutcome`), and the stamp after it is that of an
--- accepted command, or the one before.
+-- A call had an outcome as of any desk (`DeskCallHasOutcome`). The stamp after it equals the stamp of
+-- the reply if a command was accepted, otherwise the stamp before.
 pub record StampedCallHasOutcome {S : Type 0} (g : Ghosts S) (old : StampedDesk S) (now : ℕ) (call : Call) (outcome : Outcome) (new : StampedDesk S) : Type 0 where
   pub called : DeskCallHasOutcome g old.desk now call outcome new.desk
   pub stamp : new.stamp ≡ stamp_after_outcome old.stamp outcome
@@ -34,7 +34,8 @@ KeepsLastStamp g old new calls outcomes =
     → (after : Base) × Represents g new.desk after × Run base calls outcomes after × (after.last ≡ new.stamp)
 
 -- Some calls of the desk, executed in order, changed it, and nothing else did. The stamp after them
--- is that of the last accepted command among them, or the one before.
+-- equals the stamp of the last reply to a command that was accepted among them, if there is one,
+-- otherwise the stamp before.
 pub record IsSomeStampedRun {S : Type 0} (g : Ghosts S) (old new : StampedDesk S) : Type 0 where
   pub calls : List (ℕ × made.Call)
   pub outcomes : List came.Outcome

@@ -19,7 +19,7 @@ pub fn serve_stamped_listener<P: Peer, L: Listener<Stream = P>, C: Clock, S: Alt
     desk: &mut StampedDesk<S>,
 ) -> Result<(), ListenFault>
     // For any result and any bytes that the peers send, the desk changed only by a sequence of its
-    // calls, and the stamp kept is that of the last one that was accepted.
+    // calls, and the stamp kept is the stamp of the last one that was accepted.
     ensures served { IsSomeStampedRun S.Store desk.old desk.new }
     // What `serve_listener` promises of the listener, the clock and the desk.
     ensures taken { ServeEachStreamPost L.accepts (DeskServesPeer S.Store C.gives P.sends P.received) streams (record { listener = listener.old; clock = clock.old; desk = desk.old.desk })
