@@ -1,5 +1,6 @@
 -- The last stamp of a store, read.
-use Rattle.std.proofs.Common.{◌≡◌, ℕ, List, Option, None, Some, Result, Ok, Err, inl, inr, refl, sym, subst, ap, ◌∙◌}
+use Rattle.std.proofs.Common.{◌≡◌, ◌↔◌, ℕ, Bool, false, IsTrue, List, Option, None, Result, Ok, Err, inl, inr, refl, sym, subst, ◌∙◌}
+use Rattle.std.proofs.lemmas.Bool.{false≢true}
 use Rattle.std.specs.Result.{result_unwrap_or}
 use Rattle.sqlite_trees.specs.declared.store.Store.{Ghosts}
 use Rattle.sqlite.specs.Held.{Held}
@@ -32,6 +33,17 @@ module _ {S : Type 0} (g : Ghosts S) (kept : Option ℕ) (store new : Held S) wh
       subst (λ (d : Held S). ResumesFrom g kept store (record { desk = d; stamp = desk.stamp })) (sym same)
       (subst (λ (o : Option ℕ). ResumesFrom g kept store (record { desk = new; stamp = o })) (sym is) (resumed last read.0 read.1))
 
+-- A last stamp that was read and passed the test, and one that failed it.
+module _ {S : Type 0} (g : Ghosts S) (kept : Option ℕ) (store new : Held S) where
+  pub reads_late : (found last : Option ℕ) (late : Bool) → found ≡ last → IsTrue late → (IsTrue late ↔ IsNotBefore last kept) → ReadsLastStamp g store new (Ok found)
+      → ReadsStampFrom g kept store new (Ok last)
+  reads_late found last late is passed test read = (subst (λ (o : Option ℕ). ReadsLastStamp g store new (Ok o)) is read, test.0 passed)
+
+  pub reads_early : (found last : Option ℕ) (late : Bool) (failed : StoreFailed) → found ≡ last → late ≡ false → (IsTrue late ↔ IsNotBefore last kept)
+      → ReadsLastStamp g store new (Ok found) → ReadsStampFrom g kept store new (Err failed)
+  reads_early found last late failed is early test read =
+      inr (last, subst (λ (o : Option ℕ). ReadsLastStamp g store new (Ok o)) is read, λ passes. false≢true (sym early ∙ test.1 passes))
+
 -- What the store resumes from, also if the read failed or found an earlier stamp.
 module _ {S : Type 0} (g : Ghosts S) (store new : Held S) where
   pub begins : (desk : StampedDesk S) (result : Result (Option ℕ) StoreFailed) → desk.desk ≡ new → desk.stamp ≡ result_unwrap_or result None
@@ -41,13 +53,13 @@ module _ {S : Type 0} (g : Ghosts S) (store new : Held S) where
       inr (is, (failed, subst (λ (d : Held S). ReadsLastStamp g store d (Err failed)) (sym same) read))
   begins desk (Err failed) same is (inr early) = absurd (early.2 tt)
 
-module _ {S : Type 0} (g : Ghosts S) (opens : OpenRelation S) (closes : CloseRelation S) (path : List ℕ) (kept : Option ℕ) where
+module _ {S : Type 0} (g : Ghosts S) (closes : CloseRelation S) (kept : Option ℕ) where
   pub closes_behind : (store left last : Held S) (failed : StoreFailed) (closed : Result (Unit {0}) Fault) → last ≡ left → ReadsStampFrom g kept store left (Err failed)
       → closes last closed → ResumesOrCloses g closes kept store (Err fault.Store)
   closes_behind store left last failed closed same read shut =
       (refl, (left, (failed, read), (closed, subst (λ (d : Held S). closes d closed) same shut)))
 
-  pub resumes_file : (store : Held S) (result : Result (StampedDesk S) Fault) → OpensFileAgain opens closes path (Ok store) → ResumesOrCloses g closes kept store result
-      → ResumesFile g opens closes path kept result
-  resumes_file store (Ok desk) opened resumed = (store, opened, resumed)
-  resumes_file store (Err cause) opened closed = inr (store, opened, closed)
+  pub resumes_file : (opens : OpenRelation S) (path : List ℕ) (store : Held S) (result : Result (StampedDesk S) Fault) → OpensFileAgain opens closes path (Ok store)
+      → ResumesOrCloses g closes kept store result → ResumesFile g opens closes path kept result
+  resumes_file opens path store (Ok desk) opened resumed = (store, opened, resumed)
+  resumes_file opens path store (Err cause) opened closed = inr (store, opened, closed)
