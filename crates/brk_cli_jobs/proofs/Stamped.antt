@@ -1,6 +1,5 @@
 -- The last stamp of a store, read.
-use Rattle.std.proofs.Common.{◌≡◌, ◌↔◌, ℕ, Bool, false, IsTrue, List, Option, None, Result, Ok, Err, inl, inr, refl, sym, subst, ◌∙◌}
-use Rattle.std.proofs.lemmas.Bool.{false≢true}
+use Rattle.std.proofs.Common.{◌≡◌, ◌↔◌, ℕ, Bool, IsTrue, List, Option, None, Result, Ok, Err, inl, inr, refl, sym, subst, ◌∙◌}
 use Rattle.std.specs.Result.{result_unwrap_or}
 use Rattle.sqlite_trees.specs.declared.store.Store.{Ghosts}
 use Rattle.sqlite.specs.Held.{Held}
@@ -33,16 +32,11 @@ module _ {S : Type 0} (g : Ghosts S) (kept : Option ℕ) (store new : Held S) wh
       subst (λ (d : Held S). ResumesFrom g kept store (record { desk = d; stamp = desk.stamp })) (sym same)
       (subst (λ (o : Option ℕ). ResumesFrom g kept store (record { desk = new; stamp = o })) (sym is) (resumed last read.0 read.1))
 
--- A last stamp that was read and passed the test, and one that failed it.
+-- A last stamp that was read and passed the test.
 module _ {S : Type 0} (g : Ghosts S) (kept : Option ℕ) (store new : Held S) where
   pub reads_late : (found last : Option ℕ) (late : Bool) → found ≡ last → IsTrue late → (IsTrue late ↔ IsNotBefore last kept) → ReadsLastStamp g store new (Ok found)
       → ReadsStampFrom g kept store new (Ok last)
   reads_late found last late is passed test read = (subst (λ (o : Option ℕ). ReadsLastStamp g store new (Ok o)) is read, test.0 passed)
-
-  pub reads_early : (found last : Option ℕ) (late : Bool) (failed : StoreFailed) → found ≡ last → late ≡ false → (IsTrue late ↔ IsNotBefore last kept)
-      → ReadsLastStamp g store new (Ok found) → ReadsStampFrom g kept store new (Err failed)
-  reads_early found last late failed is early test read =
-      inr (last, subst (λ (o : Option ℕ). ReadsLastStamp g store new (Ok o)) is read, λ passes. false≢true (sym early ∙ test.1 passes))
 
 -- What the store resumes from, also if the read failed or found an earlier stamp.
 module _ {S : Type 0} (g : Ghosts S) (store new : Held S) where

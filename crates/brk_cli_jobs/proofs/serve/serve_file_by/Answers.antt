@@ -1,4 +1,5 @@
 use Rattle.std.proofs.Common.{arith, inl, inr}
+use Rattle.brk_cli_exit.specs.declared.ending.Ending.TheVariants as ending
 use Rattle.brk_cli_jobs.proofs.Sequence.{closes_desk, just_opened, none_served, one_more, runs_on}
 use Rattle.brk_cli_jobs.proofs.serve.serve_file_by.Goals as goal
 
@@ -39,7 +40,7 @@ returns g c = record {
   run = c.streams.invariant.run;
   ended = inl (
     omega arith,
-    closes_desk g.F.DeskFiles.closes c.streams.desk.desk c.into_store.result _ c.ending_after_close.result c.close.result c.into_store.ensures c.close.ensures
+    closes_desk g.F.DeskFiles.closes c.streams.desk.desk c.into_store.result ending.Done c.ending_after_close.result c.close.result c.into_store.ensures c.close.ensures
         c.ending_after_close.ensures,
   );
 }
