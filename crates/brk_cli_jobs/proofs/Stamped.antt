@@ -14,6 +14,10 @@ use Rattle.brk_cli_jobs.specs.Files.{CloseRelation, OpenRelation}
 use Rattle.brk_cli_jobs.specs.Serving.{BeginsServing, OpensFileAgain, ReadsLastStamp, ReadsStampFrom, ResumesFile, ResumesFrom, ResumesOrCloses}
 
 module _ {S : Type 0} (g : Ghosts S) (kept : Option ℕ) (store new : Held S) where
+  pub reads_late : (found last : Option ℕ) (late : Bool) → found ≡ last → IsTrue late → (IsTrue late ↔ IsNotBefore last kept) → ReadsLastStamp g store new (Ok found)
+      → ReadsStampFrom g kept store new (Ok last)
+  reads_late found last late is passed test read = (subst (λ (o : Option ℕ). ReadsLastStamp g store new (Ok o)) is read, test.0 passed)
+
   resumed : (last : Option ℕ) → ReadsLastStamp g store new (Ok last) → IsNotBefore last kept → ResumesFrom g kept store (record { desk = new; stamp = last })
   resumed last read late = record {
     read = read;
@@ -31,12 +35,6 @@ module _ {S : Type 0} (g : Ghosts S) (kept : Option ℕ) (store new : Held S) wh
   resumes desk last same is read =
       subst (λ (d : Held S). ResumesFrom g kept store (record { desk = d; stamp = desk.stamp })) (sym same)
       (subst (λ (o : Option ℕ). ResumesFrom g kept store (record { desk = new; stamp = o })) (sym is) (resumed last read.0 read.1))
-
--- A last stamp that was read and passed the test.
-module _ {S : Type 0} (g : Ghosts S) (kept : Option ℕ) (store new : Held S) where
-  pub reads_late : (found last : Option ℕ) (late : Bool) → found ≡ last → IsTrue late → (IsTrue late ↔ IsNotBefore last kept) → ReadsLastStamp g store new (Ok found)
-      → ReadsStampFrom g kept store new (Ok last)
-  reads_late found last late is passed test read = (subst (λ (o : Option ℕ). ReadsLastStamp g store new (Ok o)) is read, test.0 passed)
 
 -- What the store resumes from, also if the read failed or found an earlier stamp.
 module _ {S : Type 0} (g : Ghosts S) (store new : Held S) where
