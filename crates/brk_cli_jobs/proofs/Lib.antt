@@ -3,11 +3,12 @@ pub mod Asked
 pub mod Batched
 pub mod Computed
 pub mod Explained
-pub mod Frames
 pub mod Outcomes
 pub mod Overwritten
+pub mod Peers
 pub mod Placed
 pub mod Printed
 pub mod Sequence
 pub mod Served
+pub mod Stamped
 pub mod Told
