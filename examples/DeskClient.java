@@ -48,8 +48,10 @@ import java.util.regex.Pattern;
 
 public final class DeskClient implements AutoCloseable {
     static final int MOST_REQUESTS = 1000;
-    // how long a reply may take: others' streams come first, each of them up to half a minute idle
+    // how long a reply may take: others' streams come first, each of them for up to a minute
     static final int REPLY_MILLIS = 120_000;
+    // the desk ends a stream that is idle for a second, so one that is idle for longer than this is not used again
+    static final long IDLE_MILLIS = 500;
     static final int CONNECT_MILLIS = 5_000;
     static final int MOST_BODY_BYTES = 65_536;
     static final int MOST_BATCH_BYTES = 67_108_864;
@@ -626,12 +628,14 @@ public final class DeskClient implements AutoCloseable {
         abstract void close();
     }
 
-    /** A desk that is served on a port of this machine. A stream takes a thousand requests; then another one is opened. */
+    /** A desk that is served on a port of this machine. A stream takes a thousand requests, and is used while none of its pauses is
+     * longer than IDLE_MILLIS; then another one is opened. */
     public static final class Http extends Desk {
         private final int port;
         private Socket stream;
         private InputStream input;
         private int left;
+        private long used;
 
         /** The patience is in seconds; null waits for ever. */
         public Http(int port, Integer patience) {
@@ -644,7 +648,7 @@ public final class DeskClient implements AutoCloseable {
 
         private Map.Entry<String, Object> once(String target, List<String> texts) throws IOException, ClientException {
             try {
-                if (left == 0) {
+                if (left == 0 || System.nanoTime() - used > IDLE_MILLIS * 1_000_000L) {
                     open();
                 }
                 left--;
@@ -654,7 +658,9 @@ public final class DeskClient implements AutoCloseable {
                 request.writeBytes(head.getBytes(StandardCharsets.US_ASCII));
                 request.writeBytes(body);
                 stream.getOutputStream().write(request.toByteArray());
-                return reply();
+                var found = reply();
+                used = System.nanoTime();
+                return found;
             } catch (IOException error) {
                 close();
                 throw error;
@@ -751,8 +757,8 @@ public final class DeskClient implements AutoCloseable {
         }
     }
 
-    /** A desk in a file that no service holds: `brk batch` and `brk ask` run on it. The file exists and is not empty, since brk would
-     * make a new desk otherwise; with `isNew` there is neither the file nor its log, and the first batch makes it. */
+    /** A desk in a file that no service holds: `brk batch --existing` and `brk ask` run on it. With `isNew` there is neither the file nor
+     * its log, and the first batch makes it. */
     public static final class CommandLine extends Desk {
         private final Path path;
         private final boolean isNew;
@@ -843,7 +849,11 @@ public final class DeskClient implements AutoCloseable {
         }
 
         private List<Answer> lines(byte[] text, int count, Set<Long> numbers, long reading) throws IOException, ClientException {
-            Done done = run(List.of("batch", "--db", path.toString(), "--at", Long.toString(reading)), text);
+            var words = new ArrayList<>(List.of("batch", "--db", path.toString(), "--at", Long.toString(reading)));
+            if (!isNew) {
+                words.add("--existing");
+            }
+            Done done = run(words, text);
             if (done.status != 0) {
                 throw new IOException(done.message);
             }

@@ -59,8 +59,10 @@ import time
 
 HERE = pathlib.Path(__file__).resolve().parent
 MOST_REQUESTS = 1000
-# how long a reply may take: others' streams come first, each of them up to half a minute idle
+# how long a reply may take: others' streams come first, each of them for up to a minute
 REPLY_SECONDS = 120
+# the desk ends a stream that is idle for a second, so one that is idle for longer than this is not used again
+IDLE_SECONDS = 0.5
 MOST_BODY_BYTES = 65_536
 MOST_BATCH_BYTES = 67_108_864
 # how many trades a lookup has
@@ -367,12 +369,12 @@ def patiently(patience, action, what):
 
 
 class Http:
-    """A desk that is served on a port of this machine. A stream takes a thousand requests; then another one is opened. Close it when
-    nothing is to be sent: others wait as long as it is open."""
+    """A desk that is served on a port of this machine. A stream takes a thousand requests, and is used while none of its pauses is longer
+    than IDLE_SECONDS; then another one is opened. Close it when nothing is to be sent."""
 
     def __init__(self, port, patience=None):
         self.port, self.patience = port, patience
-        self.stream, self.left = None, 0
+        self.stream, self.left, self.used = None, 0, 0.0
 
     def require(self, stored, rows):
         """Any number of rows can be sent, also while the desk is away."""
@@ -383,7 +385,7 @@ class Http:
 
     def once(self, target, texts):
         try:
-            if self.left == 0:
+            if self.left == 0 or time.monotonic() - self.used > IDLE_SECONDS:
                 self.close()
                 self.stream = http.client.HTTPConnection("127.0.0.1", self.port, timeout=REPLY_SECONDS)
                 try:
@@ -398,6 +400,7 @@ class Http:
             if reply.getheader("Content-Length") is None:
                 raise ConnectionError("the reply is cut")
             (word, value), = json.loads(reply.read()).items()
+            self.used = time.monotonic()
         except (ValueError, AttributeError) as error:
             self.close()
             raise NotSent(f"port {self.port} gives no reply of a desk: {target}") from error
@@ -443,8 +446,8 @@ def program():
 
 
 class File:
-    """A desk in a file that no service holds: `brk batch` and `brk ask` run on it. The file exists and is not empty, since brk would
-    make a new desk otherwise; with `new` there is neither the file nor its log, and the first batch makes it."""
+    """A desk in a file that no service holds: `brk batch --existing` and `brk ask` run on it. With `new` there is neither the file nor its
+    log, and the first batch makes it."""
 
     def __init__(self, path, patience=None, new=False):
         self.path, self.patience, self.new = os.fspath(path), patience, new
@@ -483,7 +486,7 @@ class File:
         yield patiently(self.patience, lambda: self.lines(text, set(numbers), len(sent), reading), self.path)
 
     def lines(self, text, numbers, count, reading):
-        status, output, message = self.run(["batch", "--db", self.path, "--at", str(reading)], text)
+        status, output, message = self.run(["batch", "--db", self.path, *([] if self.new else ["--existing"]), "--at", str(reading)], text)
         # a line is complete once its line feed is there
         lines = [line.split(",") for line in output.decode("ascii", "replace").split("\n")[:-1]]
         if status:
