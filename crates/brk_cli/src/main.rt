@@ -3,7 +3,7 @@
 
 use brk_cli_args::{Job, UsageFault, non_utf8_fault, read_words};
 use brk_cli_exit::{Ending, end_with};
-use brk_cli_jobs::{PipeWriter, execute_requested_job_on_machine};
+use brk_cli_jobs::{PipeWriter, execute_requested_job_on_machine, prints_over_desk};
 use std::alloc::AllocError;
 use std::env;
 use std::io::ErrorKind;
@@ -27,9 +27,16 @@ fn requested_job(rt: &HostRuntime) -> Result<Job, UsageFault> {
     read_words(command_line_arguments(rt)?)
 }
 
+// Nothing is opened if the job would print over its own desk.
 fn execute_command_line(rt: &HostRuntime) -> Ending {
+    let requested = requested_job(rt);
+    if let Ok(job) = &requested
+        && prints_over_desk(rt, job)
+    {
+        return Ending::Output;
+    }
     let mut output = PipeWriter::new(rt.stdout());
-    execute_requested_job_on_machine(rt, requested_job(rt), rt.reader(), &mut output)
+    execute_requested_job_on_machine(rt, requested, rt.reader(), &mut output)
 }
 
 // A failure to write the error line does not change the exit status.

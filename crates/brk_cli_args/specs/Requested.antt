@@ -7,9 +7,11 @@ use Rattle.brk_cli_args.specs.Arguments.{IsFlagOf, IsNumberOf, IsNumberOr, IsOpt
 use Rattle.brk_cli_args.specs.declared.job.Job.{Job}
 use Rattle.brk_cli_args.specs.declared.job.Job.TheVariants as job
 
--- A batch: the path of its file, if it has one, and the reading of its clock.
-pub record RequestsBatch (found : Found) (db : Option Text) (at : Option ℕ) : Type 0 where
+-- A batch: the path of its file, if it has one, whether the file must have a desk, and the reading of
+-- its clock.
+pub record RequestsBatch (found : Found) (db : Option Text) (existing : Bool) (at : Option ℕ) : Type 0 where
   pub db_argument : db ≡ first_value found (codes "db")
+  pub existing_argument : IsFlagOf found (codes "existing") existing
   pub at_argument : IsOptionalStampOf found (codes "at") at
 
 -- A statement: the path of its file, its account, and its first and its last day.
@@ -40,23 +42,25 @@ pub record RequestsExplanation (found : Found) (db : Text) (words : List Text) :
   pub db_argument : db ≡ text_of_argument found (codes "db")
   pub words_argument : words ≡ texts_of_argument found (codes "words")
 
--- A service: its port, the path of its file, if it has one, the reading of its clock, and the number
--- of its streams. 0 and 1 are in place of a port and of a number of streams that are missing.
-pub record RequestsService (found : Found) (port : ℕ) (db : Option Text) (at : Option ℕ) (streams : ℕ) : Type 0 where
+-- A service: its port, the path of its file, if it has one, whether the file must have a desk, the
+-- reading of its clock, and the number of its streams. 0 and 1 are in place of a port and of a number
+-- of streams that are missing.
+pub record RequestsService (found : Found) (port : ℕ) (db : Option Text) (existing : Bool) (at : Option ℕ) (streams : ℕ) : Type 0 where
   pub port_argument : IsNumberOr 16 0 found (codes "port") port
   pub db_argument : db ≡ first_value found (codes "db")
+  pub existing_argument : IsFlagOf found (codes "existing") existing
   pub at_argument : IsOptionalStampOf found (codes "at") at
   pub streams_argument : IsNumberOr 32 1 found (codes "streams") streams
 
 -- The job is the one of the subcommand `name`, with the values of its arguments. Any name but those
 -- of the other subcommands is a batch's.
 abbrev pub IsRequestedJob : List ℕ → Found → Job → Type 0
-IsRequestedJob name found (job.Batch db at) = RequestsBatch found (option_map string_bytes db) at
+IsRequestedJob name found (job.Batch db existing at) = RequestsBatch found (option_map string_bytes db) existing at
 IsRequestedJob name found (job.Statement db account from to) = (name ≡ codes "statement") × RequestsStatement found (string_bytes db) account from to
 IsRequestedJob name found (job.Statements db from to customer) = (name ≡ codes "statements") × RequestsStatements found (string_bytes db) from to customer
 IsRequestedJob name found (job.Audit db) = (name ≡ codes "audit") × (string_bytes db ≡ text_of_argument found (codes "db"))
 IsRequestedJob name found (job.Ask db json heads view arguments) =
     (name ≡ codes "ask") × RequestsView found (string_bytes db) json heads (string_bytes view) (map string_bytes arguments.items)
 IsRequestedJob name found (job.Explain db words) = (name ≡ codes "explain") × RequestsExplanation found (string_bytes db) (map string_bytes words.items)
-IsRequestedJob name found (job.Serve port db at streams) =
-    (name ≡ codes "serve") × RequestsService found port (option_map string_bytes db) at streams
+IsRequestedJob name found (job.Serve port db existing at streams) =
+    (name ≡ codes "serve") × RequestsService found port (option_map string_bytes db) existing at streams

@@ -5,8 +5,10 @@ use brk_money::{Day, Id, Stamp};
 pub enum Job {
     /// Executes a batch from standard input on the desk in the file at `db`, or on a new desk in
     /// memory. Each clock reading is `at`, or a reading of the machine's clock if `at` is `None`.
+    /// Creates no desk in the file if `existing` is true.
     Batch {
         db: Option<String>,
+        existing: bool,
         at: Option<Stamp>,
     },
     /// Prints the statement of an account of the desk in the file at `db`, from the day `from` to
@@ -46,10 +48,12 @@ pub enum Job {
     },
     /// Serves the given number of streams of HTTP requests, in sequence, at a port of this machine,
     /// on the desk in the file at `db` or on a new desk in memory. Each clock reading is `at`, or a
-    /// reading of the machine's clock if `at` is `None`.
+    /// reading of the machine's clock if `at` is `None`. Creates no desk in the file if `existing` is
+    /// true.
     Serve {
         port: u16,
         db: Option<String>,
+        existing: bool,
         at: Option<Stamp>,
         streams: u32,
     },

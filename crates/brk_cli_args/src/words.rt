@@ -50,6 +50,11 @@ fn required_file_arg<'a>(alloc: Global) -> Arg<'a> {
     option(alloc, "db", "FILE", "The file of the desk").required(true)
 }
 
+// A desk in memory is always new.
+fn existing_arg<'a>(alloc: Global) -> Result<Arg<'a>, AllocError> {
+    flag_arg(alloc, "existing", "Makes no desk: the file must have one").requires_arg("db")
+}
+
 fn timestamp_arg<'a>(alloc: Global) -> Arg<'a> {
     option(
         alloc,
@@ -79,7 +84,11 @@ fn subcommand<'a>(
 }
 
 fn batch_command<'a>(alloc: Global) -> Result<Command<'a>, AllocError> {
-    let args = vec![in alloc; optional_file_arg(alloc), timestamp_arg(alloc)]?;
+    let args = vec![in alloc;
+        optional_file_arg(alloc),
+        existing_arg(alloc)?,
+        timestamp_arg(alloc),
+    ]?;
     subcommand(
         alloc,
         "batch",
@@ -234,6 +243,7 @@ fn serve_command<'a>(alloc: Global) -> Result<Command<'a>, AllocError> {
     let args = vec![in alloc;
         port_arg(alloc),
         optional_file_arg(alloc),
+        existing_arg(alloc)?,
         timestamp_arg(alloc),
         streams_arg(alloc),
     ]?;
@@ -367,6 +377,7 @@ fn serve_job(alloc: Global, matches: &ArgMatches<'_>) -> Result<Job, UsageFault>
     Ok(Job::Serve {
         port: port_number(matches),
         db: db_path(alloc, matches)?,
+        existing: matches.get_flag("existing"),
         at: at_timestamp(matches),
         streams: stream_count(matches),
     })
@@ -433,6 +444,7 @@ fn subcommand_job(alloc: Global, name: &str, matches: &ArgMatches<'_>) -> Result
     }
     Ok(Job::Batch {
         db: db_path(alloc, matches)?,
+        existing: matches.get_flag("existing"),
         at: at_timestamp(matches),
     })
 }

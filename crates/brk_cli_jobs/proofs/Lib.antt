@@ -3,9 +3,9 @@ pub mod Asked
 pub mod Batched
 pub mod Computed
 pub mod Explained
-pub mod Frames
 pub mod Outcomes
 pub mod Overwritten
+pub mod Peers
 pub mod Placed
 pub mod Printed
 pub mod Sequence

@@ -1,5 +1,5 @@
 -- The text that a batch prints on a new desk in memory at a fixed time.
-use Rattle.std.proofs.Common.{◌≡◌, ◌⊎◌, inl, inr, ℕ, List, [], ◌∷◌, Option, Some, None, Ok, Err, Result, length, option_map, ◌+◌, refl, sym, subst, ◌∙◌, ap}
+use Rattle.std.proofs.Common.{◌≡◌, ◌⊎◌, inl, inr, ℕ, Bool, true, false, List, [], ◌∷◌, Option, Some, None, Ok, Err, Result, length, option_map, ◌+◌, refl, sym, subst, ◌∙◌, ap}
 use Rattle.std.specs.Borrow.{Bor}
 use Rattle.std.specs.Io.KnownBytes.{Appends}
 use Rattle.std.specs.List.{AllByRecursion}
@@ -89,8 +89,8 @@ module _ {R : Type 0} (machine : Bor R) (t : ℕ) (input : Text) (io : InputAndO
   done_whole base after later (Ok counts) is e = complete base after later (counts.ok + counts.again + counts.no) is.0
   done_whole base after later (Err fault) is e = absurd (cc)
 
-  on_new_store : (end : Ending) → io.input ≡ Some input → ExecutesJobOnNewStore machine (job.Batch None (Some t)) io end → PrintsBatchAt machine t input io end
-  on_new_store end known ran =
+  on_new_store : (existing : Bool) (end : Ending) → io.input ≡ Some input → ExecutesJobOnNewStore machine (job.Batch None existing (Some t)) io end → PrintsBatchAt machine t input io end
+  on_new_store existing end known ran =
       let b : ExecutesBatch over_memory machine (Some t) ran.old ran.new io end = ran.executed in
       let led = b.refines_model (memory_is_clean ran.new) empty_base (made_keeps over_memory ran.old ran.created.created) in
       let printed = subst (λ (i : Option Text). IsBatchResult (parse_by_first_field row_parsers) step_of_row ReturnsReading (option_map input_text i) (change empty_base led.0 b.later) b.result) known led.2 in
@@ -103,18 +103,18 @@ module _ {R : Type 0} (machine : Bor R) (t : ℕ) (input : Text) (io : InputAndO
         printed = printed;
       }
 
-  in_memory : (end : Ending) → io.input ≡ Some input → ExecutesJobInMemory machine (job.Batch None (Some t)) io end
+  in_memory : (existing : Bool) (end : Ending) → io.input ≡ Some input → ExecutesJobInMemory machine (job.Batch None existing (Some t)) io end
       → ((fault : Fault) × FailsToOpen fault io end) ⊎ PrintsBatchAt machine t input io end
-  in_memory end known (inl failed) = inl failed
-  in_memory end known (inr ran) = inr (on_new_store end known ran)
+  in_memory existing end known (inl failed) = inl failed
+  in_memory existing end known (inr ran) = inr (on_new_store existing end known ran)
 
 -- a batch on a file that was done
 module _ {S R : Type 0} (g : Ghosts S) (creates opens : OpenRelation S) (closes : CloseRelation S) (machine : Bor R) (t : ℕ) (input : Text) where
-  in_file : (path : String Global) (io : InputAndOutput) (reached : Ending) (result : Result (Held S) Fault) → io.input ≡ Some input
-      → creates (string_bytes path) result → ExecutesJobOnOpened g opens closes machine (job.Batch (Some path) (Some t)) (string_bytes path) result io reached → reached ≡ ending.Done
+  in_file : (path : String Global) (existing : Bool) (io : InputAndOutput) (reached : Ending) (result : Result (Held S) Fault) → io.input ≡ Some input
+      → creates (string_bytes path) result → ExecutesJobOnOpened g opens closes machine (job.Batch (Some path) existing (Some t)) (string_bytes path) result io reached → reached ≡ ending.Done
       → CompletesBatchInFile g creates closes (string_bytes path) t input io
-  in_file path io reached (Err fault) known opened failed done = let e = sym failed.0 ∙ done in absurd (cc)
-  in_file path io reached (Ok store) known opened ran done =
+  in_file path existing io reached (Err fault) known opened failed done = let e = sym failed.0 ∙ done in absurd (cc)
+  in_file path existing io reached (Ok store) known opened ran done =
       let both = both_done ran.reached ran.closed (sym ran.ended ∙ done) in
       let b : ExecutesBatch g machine (Some t) store ran.new io ran.reached = ran.executed in
       record {
@@ -132,45 +132,50 @@ module _ {S R : Type 0} (g : Ghosts S) (creates opens : OpenRelation S) (closes 
 
 -- an audit has the ending and the content of a batch before its `ok`
 module _ {S R : Type 0} (g : Ghosts S) (creates opens : OpenRelation S) (closes : CloseRelation S) (machine : Bor R) where
-  same_run : (t : ℕ) (io : InputAndOutput) (end reached : Ending) (mid : Option Text) → end ≡ reached → io.after ≡ mid
-      → ExecutesJobInMemory machine (job.Batch None (Some t)) (record { input = io.input; before = io.before; after = mid }) reached
-      → ExecutesJobInMemory machine (job.Batch None (Some t)) io end
-  same_run t io end reached mid is same ran =
-      subst (λ (e : Ending). ExecutesJobInMemory machine (job.Batch None (Some t)) io e) (sym is)
-      (subst (λ (m : Option Text). ExecutesJobInMemory machine (job.Batch None (Some t)) (record { input = io.input; before = io.before; after = m }) reached) (sym same) ran)
+  same_run : (existing : Bool) (t : ℕ) (io : InputAndOutput) (end reached : Ending) (mid : Option Text) → end ≡ reached → io.after ≡ mid
+      → ExecutesJobInMemory machine (job.Batch None existing (Some t)) (record { input = io.input; before = io.before; after = mid }) reached
+      → ExecutesJobInMemory machine (job.Batch None existing (Some t)) io end
+  same_run existing t io end reached mid is same ran =
+      subst (λ (e : Ending). ExecutesJobInMemory machine (job.Batch None existing (Some t)) io e) (sym is)
+      (subst (λ (m : Option Text). ExecutesJobInMemory machine (job.Batch None existing (Some t)) (record { input = io.input; before = io.before; after = m }) reached) (sym same) ran)
 
   pub prints : (j : Job) (input : Option Text) (io : InputAndOutput) (end : Ending) → io.input ≡ input → RunsJob g creates opens closes machine j io end
       → PrintsBatchOfJob machine j input io end
-  prints (job.Batch None (Some t)) (Some input) io end known ran =
-      in_memory machine t input io end known (same_run t io end ran.reached ran.mid ran.printed.0 ran.printed.1 ran.executed)
-  prints (job.Batch None (Some t)) None io end known ran = tt
-  prints (job.Batch None None) input io end known ran = tt
-  prints (job.Batch (Some path) at) input io end known ran = tt
+  prints (job.Batch None existing (Some t)) (Some input) io end known ran =
+      in_memory machine t input io existing end known (same_run existing t io end ran.reached ran.mid ran.printed.0 ran.printed.1 ran.executed)
+  prints (job.Batch None existing (Some t)) None io end known ran = tt
+  prints (job.Batch None existing None) input io end known ran = tt
+  prints (job.Batch (Some path) existing at) input io end known ran = tt
   prints (job.Statement db account from to) input io end known ran = tt
   prints (job.Statements db from to customer) input io end known ran = tt
   prints (job.Audit db) input io end known ran = tt
   prints (job.Ask db json heads view arguments) input io end known ran = tt
   prints (job.Explain db words) input io end known ran = tt
-  prints (job.Serve port db at streams) input io end known ran = tt
+  prints (job.Serve port db existing at streams) input io end known ran = tt
 
-  file_run : (path : String Global) (t : ℕ) (io : InputAndOutput) (reached : Ending) (mid : Option Text) → io.after ≡ mid
-      → ExecutesJobInFile g creates opens closes machine (job.Batch (Some path) (Some t)) (string_bytes path) (record { input = io.input; before = io.before; after = mid }) reached
-      → ExecutesJobInFile g creates opens closes machine (job.Batch (Some path) (Some t)) (string_bytes path) io reached
-  file_run path t io reached mid same ran =
-      subst (λ (m : Option Text). ExecutesJobInFile g creates opens closes machine (job.Batch (Some path) (Some t)) (string_bytes path) (record { input = io.input; before = io.before; after = m }) reached)
+  file_run : (first : OpenRelation S) (path : String Global) (existing : Bool) (t : ℕ) (io : InputAndOutput) (reached : Ending) (mid : Option Text) → io.after ≡ mid
+      → ExecutesJobInFile g first opens closes machine (job.Batch (Some path) existing (Some t)) (string_bytes path) (record { input = io.input; before = io.before; after = mid }) reached
+      → ExecutesJobInFile g first opens closes machine (job.Batch (Some path) existing (Some t)) (string_bytes path) io reached
+  file_run first path existing t io reached mid same ran =
+      subst (λ (m : Option Text). ExecutesJobInFile g first opens closes machine (job.Batch (Some path) existing (Some t)) (string_bytes path) (record { input = io.input; before = io.before; after = m }) reached)
       (sym same) ran
 
   pub done_in_file : (j : Job) (input : Option Text) (io : InputAndOutput) (end : Ending) → io.input ≡ input → RunsJob g creates opens closes machine j io end
-      → CompletesBatchOfJob g creates closes j input io end
-  done_in_file (job.Batch (Some path) (Some t)) (Some input) io end known ran =
-      let it = file_run path t io ran.reached ran.mid ran.printed.1 ran.executed in
-      λ done. in_file g creates opens closes machine t input path io ran.reached it.result known it.opened it.executed (sym ran.printed.0 ∙ done)
-  done_in_file (job.Batch (Some path) (Some t)) None io end known ran = tt
-  done_in_file (job.Batch (Some path) None) input io end known ran = tt
-  done_in_file (job.Batch None at) input io end known ran = tt
+      → CompletesBatchOfJob g creates opens closes j input io end
+  done_in_file (job.Batch (Some path) false (Some t)) (Some input) io end known ran =
+      let it = file_run creates path false t io ran.reached ran.mid ran.printed.1 ran.executed in
+      λ done. in_file g creates opens closes machine t input path false io ran.reached it.result known it.opened it.executed (sym ran.printed.0 ∙ done)
+  done_in_file (job.Batch (Some path) true (Some t)) (Some input) io end known ran =
+      let it = file_run opens path true t io ran.reached ran.mid ran.printed.1 ran.executed in
+      λ done. in_file g opens opens closes machine t input path true io ran.reached it.result known it.opened it.executed (sym ran.printed.0 ∙ done)
+  done_in_file (job.Batch (Some path) false (Some t)) None io end known ran = tt
+  done_in_file (job.Batch (Some path) true (Some t)) None io end known ran = tt
+  done_in_file (job.Batch (Some path) false None) input io end known ran = tt
+  done_in_file (job.Batch (Some path) true None) input io end known ran = tt
+  done_in_file (job.Batch None existing at) input io end known ran = tt
   done_in_file (job.Statement db account from to) input io end known ran = tt
   done_in_file (job.Statements db from to customer) input io end known ran = tt
   done_in_file (job.Audit db) input io end known ran = tt
   done_in_file (job.Ask db json heads view arguments) input io end known ran = tt
   done_in_file (job.Explain db words) input io end known ran = tt
-  done_in_file (job.Serve port db at streams) input io end known ran = tt
+  done_in_file (job.Serve port db existing at streams) input io end known ran = tt

@@ -370,7 +370,9 @@ module _ {S R : Type 0} (g : Ghosts S) (creates opens : OpenRelation S) (closes 
       (λ old new e did. explanation_printed g old new io e (read_explain_request (map string_bytes words.items)) did) end
       (same_run j (string_bytes db) io end ran.reached ran.mid ran.printed ran.executed)
   told (job.Audit db) io end ran = audited g opens closes machine (string_bytes db) io db end ran.reached ran.mid ran.executed ran.printed
-  told (job.Batch None at) io end ran = tt
-  told (job.Batch (Some path) at) io end ran = tt
-  told (job.Serve port None at streams) io end ran = tt
-  told (job.Serve port (Some path) at streams) io end ran = tt
+  told (job.Batch None existing at) io end ran = tt
+  told (job.Batch (Some path) false at) io end ran = tt
+  told (job.Batch (Some path) true at) io end ran = tt
+  told (job.Serve port None existing at streams) io end ran = tt
+  told (job.Serve port (Some path) false at streams) io end ran = tt
+  told (job.Serve port (Some path) true at streams) io end ran = tt

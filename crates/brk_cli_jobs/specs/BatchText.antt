@@ -1,5 +1,5 @@
 -- What a batch prints at a fixed time, in the words of the model.
-use Rattle.std.specs.Prelude.{◌≡◌, ◌⊎◌, ℕ, List, Option, Some, None, Result, Ok, length, replicate, string_bytes}
+use Rattle.std.specs.Prelude.{◌≡◌, ◌⊎◌, ℕ, true, false, List, Option, Some, None, Result, Ok, length, replicate, string_bytes}
 use Rattle.std.specs.Borrow.{Bor}
 use Rattle.std.specs.Io.KnownBytes.{Appends}
 use Rattle.sqlite.specs.Held.{Held, state}
@@ -54,7 +54,7 @@ pub record PrintsBatchAt {R : Type 0} (machine : Bor R) (t : ℕ) (input : Text)
 -- For a batch without a file, with a fixed time and an input of known bytes: the batch was executed
 -- (`PrintsBatchAt`), or its desk could not be created and nothing was written. Vacuous otherwise.
 abbrev pub PrintsBatchOfJob : {R : Type 0} → Bor R → Job → Option Text → InputAndOutput → Ending → Type 0
-PrintsBatchOfJob machine (job.Batch None (Some t)) (Some input) io end = ((fault : Fault) × FailsToOpen fault io end) ⊎ PrintsBatchAt machine t input io end
+PrintsBatchOfJob machine (job.Batch None existing (Some t)) (Some input) io end = ((fault : Fault) × FailsToOpen fault io end) ⊎ PrintsBatchAt machine t input io end
 PrintsBatchOfJob machine job input io end = Unit {0}
 
 -- The batch `input` was executed at the time `t` on the desk in the file at `path`, which was
@@ -72,7 +72,10 @@ pub record CompletesBatchInFile {S : Type 0} (g : Ghosts S) (creates : OpenRelat
 
 -- If the job is a batch with a file and a fixed time, and the bytes of its input are known: `Done`
 -- means that the batch was executed on this file (`CompletesBatchInFile`). Vacuous otherwise.
-abbrev pub CompletesBatchOfJob : {S : Type 0} → Ghosts S → OpenRelation S → CloseRelation S → Job → Option Text → InputAndOutput → Ending → Type 0
-CompletesBatchOfJob g creates closes (job.Batch (Some path) (Some t)) (Some input) io end =
+abbrev pub CompletesBatchOfJob : {S : Type 0} → Ghosts S → OpenRelation S → OpenRelation S → CloseRelation S → Job → Option Text → InputAndOutput → Ending
+    → Type 0
+CompletesBatchOfJob g creates opens closes (job.Batch (Some path) false (Some t)) (Some input) io end =
     end ≡ ending.Done → CompletesBatchInFile g creates closes (string_bytes path) t input io
-CompletesBatchOfJob g creates closes job input io end = Unit {0}
+CompletesBatchOfJob g creates opens closes (job.Batch (Some path) true (Some t)) (Some input) io end =
+    end ≡ ending.Done → CompletesBatchInFile g opens closes (string_bytes path) t input io
+CompletesBatchOfJob g creates opens closes job input io end = Unit {0}

@@ -56,8 +56,8 @@ text_of_job base (job.Ask db json heads view arguments) =
     Some (text_of_view (record { json = json; heads = heads }) base (parse_query (string_bytes view) (map string_bytes arguments.items)))
 text_of_job base (job.Explain db words) = Some (text_of_explanation (sheets base) (read_explain_request (map string_bytes words.items)))
 text_of_job base (job.Audit db) = Some (Ok (codes "ok\n"))
-text_of_job base (job.Batch db at) = None
-text_of_job base (job.Serve port db at streams) = None
+text_of_job base (job.Batch db existing at) = None
+text_of_job base (job.Serve port db existing at streams) = None
 
 -- Exactly this text was written. False of a refusal, vacuous without a text, or if the writer's
 -- content before is unknown.

@@ -4,8 +4,6 @@
 use Rattle.std.specs.Prelude.{◌≡◌, ◌⊎◌, Bool, ℕ, List, Option, None, Result, Ok, Err, codes, map, option_map, string_bytes, take}
 use Rattle.std.specs.Borrow.{Bor}
 use Rattle.std.specs.Io.KnownBytes.{Appends}
-use Rattle.std.specs.declared.net.tcp.TcpListener.{TcpListener}
-use Rattle.std.specs.declared.net.tcp.TcpStream.{TcpStream}
 use Rattle.sqlite_trees.specs.declared.store.Store.{Ghosts}
 use Rattle.sqlite.specs.Held.{Held, state}
 use Rattle.sqlite.specs.State.{HasCleanDisk}
@@ -114,14 +112,12 @@ WritesExplanation g request old new io end =
 pub record ServesListener {S C : Type 0} (g : Ghosts S) (gives : C → ℕ → C → Type 0) (streams : ℕ) (clock later : C) (old new : Held S)
     (result : Result (Unit {0}) Ending) : Type 0 where
   pub listened : Result (Unit {0}) ListenFault
-  -- The listener before and after. No clause relates it to a port.
-  pub first : Bor TcpListener
-  pub last : Bor TcpListener
   pub ended : result ≡ result_of_serving listened
   pub served : IsSomeDeskRun g old new
-  -- The peers are sockets: no contract says what they send or receive.
-  pub taken : ServeEachStreamPost {P = TcpStream} (λ _ _ _. Unit {0}) (DeskServesPeer g gives (λ _. None) (λ _. None)) streams
-      (record { listener = first; clock = clock; desk = old }) listened (record { listener = last; clock = later; desk = new })
+  -- The listener and the peers are sockets, so nothing is said of them: no clause relates a listener to
+  -- a port, and no contract says what a peer sends or receives.
+  pub taken : ServeEachStreamPost {L = Unit {0}} {P = Unit {0}} (λ _ _ _. Unit {0}) (DeskServesPeer g gives (λ _. None) (λ _. None)) streams
+      (record { listener = tt; clock = clock; desk = old }) listened (record { listener = tt; clock = later; desk = new })
 
 -- The job served its streams with the readings of the program's clock (`ServesListener`), or its
 -- port could not be opened, and the desk is unchanged.
@@ -139,11 +135,11 @@ WritesAuditOk before after end =
 
 -- What the job does on an open desk. An audit does nothing here: it passed when the desk was opened.
 abbrev pub ExecutesJob : {S R : Type 0} → Ghosts S → Bor R → Job → Held S → Held S → InputAndOutput → Ending → Type 0
-ExecutesJob g machine (job.Batch db at) old new io end = ExecutesBatch g machine at old new io end
+ExecutesJob g machine (job.Batch db existing at) old new io end = ExecutesBatch g machine at old new io end
 ExecutesJob g machine (job.Statement db account from to) old new io end = WritesStatementOfAccount g account from to old new io end
 ExecutesJob g machine (job.Statements db from to customer) old new io end = WritesStatementsOfAccounts g customer from to old new io end
 ExecutesJob g machine (job.Audit db) old new io end = (end ≡ ending.Done) × (new ≡ old) × (io.after ≡ io.before)
 ExecutesJob g machine (job.Ask db json heads view arguments) old new io end =
     WritesView g (record { json = json; heads = heads }) (parse_query (string_bytes view) (map string_bytes arguments.items)) old new io end
 ExecutesJob g machine (job.Explain db words) old new io end = WritesExplanation g (read_explain_request (map string_bytes words.items)) old new io end
-ExecutesJob g machine (job.Serve port db at streams) old new io end = ServesStreams g machine at streams old new end × (io.after ≡ io.before)
+ExecutesJob g machine (job.Serve port db existing at streams) old new io end = ServesStreams g machine at streams old new end × (io.after ≡ io.before)

@@ -1,6 +1,6 @@
 -- What a job does on a desk in memory or in a file, with the opening and the closing of the desk.
 -- `opens`, `opens_or_creates` and `closes` are the relations of the files (`DeskFiles`).
-use Rattle.std.specs.Prelude.{◌≡◌, ◌⊎◌, ℕ, List, Option, None, Some, Result, Ok, Err, String, string_bytes}
+use Rattle.std.specs.Prelude.{◌≡◌, ◌⊎◌, ℕ, Bool, true, false, List, Option, None, Some, Result, Ok, Err, String, string_bytes}
 use Rattle.std.specs.Borrow.{Bor}
 use Rattle.sqlite_trees.specs.declared.memory.MemStore.{MemStore}
 use Rattle.sqlite_trees.specs.declared.store.Store.{Ghosts}
@@ -55,7 +55,7 @@ pub record ExecutesJobAndCloses {S R : Type 0} (g : Ghosts S) (closes : CloseRel
 -- the file again between two streams, by the relation `reopens` (`ServesStreamsInFile`); any other
 -- job was executed on this store, which was then closed.
 abbrev pub ExecutesJobOnStore : {S R : Type 0} → Ghosts S → OpenRelation S → CloseRelation S → Bor R → Job → List ℕ → Held S → InputAndOutput → Ending → Type 0
-ExecutesJobOnStore g reopens closes machine (job.Serve port db at streams) path old io end =
+ExecutesJobOnStore g reopens closes machine (job.Serve port db existing at streams) path old io end =
     ServesStreamsInFile g reopens closes machine path at streams old end × (io.after ≡ io.before)
 ExecutesJobOnStore g reopens closes machine job path old io end = ExecutesJobAndCloses g closes machine job old io end
 
@@ -86,23 +86,25 @@ abbrev pub ExecutesJobInExistingFile : {S R : Type 0} → Ghosts S → OpenRelat
 ExecutesJobInExistingFile g opens closes machine job path io end =
     (HasWords job × FailsToOpen Memory io end) ⊎ OpensUnlessRefused (result_of_words job) g opens closes machine job path io end
 
--- The place of a desk: in memory, in the file at a path, where a desk is created if there is none,
--- or in the file at a path, which must exist.
+-- The place of a desk: in memory, in the file at a path, where a desk is created if there is none, in
+-- the file at a path, which must have one that a job changes, or in such a file that a job reads.
 pub data DeskPlace : Type 0 where
   InMemory : DeskPlace
   InFileOrNewFile : List ℕ → DeskPlace
+  InFileWithDesk : List ℕ → DeskPlace
   InFile : List ℕ → DeskPlace
 
--- The place of a desk for an optional path.
-abbrev pub place_of_optional_path : {Z : Type 0} → Option (String Z) → DeskPlace
-place_of_optional_path None = InMemory
-place_of_optional_path (Some path) = InFileOrNewFile (string_bytes path)
+-- The place of a desk for an optional path; `existing`: no desk is created in a file.
+abbrev pub place_of_optional_path : {Z : Type 0} → Option (String Z) → Bool → DeskPlace
+place_of_optional_path None existing = InMemory
+place_of_optional_path (Some path) false = InFileOrNewFile (string_bytes path)
+place_of_optional_path (Some path) true = InFileWithDesk (string_bytes path)
 
 -- The place of the desk of a job: for a batch and for serving, its file, or memory without a file;
 -- for any other job, its file, which must exist.
 abbrev pub place_of_job : Job → DeskPlace
-place_of_job (job.Batch db at) = place_of_optional_path db
-place_of_job (job.Serve port db at streams) = place_of_optional_path db
+place_of_job (job.Batch db existing at) = place_of_optional_path db existing
+place_of_job (job.Serve port db existing at streams) = place_of_optional_path db existing
 place_of_job (job.Statement db account from to) = InFile (string_bytes db)
 place_of_job (job.Statements db from to customer) = InFile (string_bytes db)
 place_of_job (job.Audit db) = InFile (string_bytes db)
@@ -114,6 +116,7 @@ abbrev pub ExecutesJobAt : {S R : Type 0} → Ghosts S → OpenRelation S → Op
     → Type 0
 ExecutesJobAt g creates opens closes machine job InMemory io end = ExecutesJobInMemory machine job io end
 ExecutesJobAt g creates opens closes machine job (InFileOrNewFile path) io end = ExecutesJobInFile g creates opens closes machine job path io end
+ExecutesJobAt g creates opens closes machine job (InFileWithDesk path) io end = ExecutesJobInFile g opens opens closes machine job path io end
 ExecutesJobAt g creates opens closes machine job (InFile path) io end = ExecutesJobInExistingFile g opens closes machine job path io end
 
 -- After an audit that passed, and the close of its file, `ok` was written (`WritesAuditOk`).

@@ -14,7 +14,7 @@ use Rattle.brk_cli_jobs.specs.BatchText.{CompletesBatchOfJob, PrintsBatchOfJob}
 use Rattle.brk_cli_jobs.specs.Files.{CloseRelation, OpenRelation}
 use Rattle.brk_cli_jobs.specs.JobText.{PrintsJobAt}
 use Rattle.brk_cli_jobs.specs.Jobs.{InputAndOutput}
-use Rattle.brk_cli_jobs.specs.Places.{DeskPlace, InFile, InFileOrNewFile, InMemory, RunsJob, place_of_job}
+use Rattle.brk_cli_jobs.specs.Places.{DeskPlace, InFile, InFileOrNewFile, InFileWithDesk, InMemory, RunsJob, place_of_job}
 use Rattle.brk_cli_jobs.specs.declared.jobs.Place.{Place}
 use Rattle.brk_cli_jobs.specs.declared.jobs.Place.TheVariants as place
 
@@ -22,6 +22,7 @@ use Rattle.brk_cli_jobs.specs.declared.jobs.Place.TheVariants as place
 abbrev pub abstract_place : Place → DeskPlace
 abstract_place place.Memory = InMemory
 abstract_place (place.FileOrNewFile path) = InFileOrNewFile path.now
+abstract_place (place.FileWithDesk path) = InFileWithDesk path.now
 abstract_place (place.ExistingFile path) = InFile path.now
 
 -- The help text or the version text `text` was written, and the ending is `Usage` with it; or a
@@ -37,6 +38,6 @@ abbrev pub AnswersRequest : {S R : Type 0} → Ghosts S → OpenRelation S → O
     → Type 0
 AnswersRequest g creates opens closes machine (Ok job) io end =
     RunsJob g creates opens closes machine job io end × PrintsBatchOfJob machine job io.input io end
-    × CompletesBatchOfJob g creates closes job io.input io end × PrintsJobAt g opens closes job (place_of_job job) io end
+    × CompletesBatchOfJob g creates opens closes job io.input io end × PrintsJobAt g opens closes job (place_of_job job) io end
 AnswersRequest g creates opens closes machine (Err (usage.Help text)) io end = WritesHelpText text io.before io.after end
 AnswersRequest g creates opens closes machine (Err fault) io end = (end ≡ ending.Usage fault) × (io.after ≡ io.before)

@@ -27,7 +27,11 @@ fn execute_job_at_desk<R: Read + Drop, W: Write, S: Alter>(
         (record { input = R.remaining input; before = W.contents output.old.output; after = W.contents output.new.output }) result }
 {
     match job {
-        Job::Batch { db: _, at } => batch::execute_batch_job(rt, *at, input, output, desk),
+        Job::Batch {
+            db: _,
+            existing: _,
+            at,
+        } => batch::execute_batch_job(rt, *at, input, output, desk),
         Job::Statement {
             db: _,
             account,
@@ -63,6 +67,7 @@ fn execute_job_at_desk<R: Read + Drop, W: Write, S: Alter>(
         Job::Serve {
             port,
             db: _,
+            existing: _,
             at,
             streams,
         } => serve::execute_serve_job(rt, *port, *at, *streams, desk),
@@ -116,6 +121,7 @@ fn execute_job_on_file_store<S: Alter, F: DeskFiles<Desk = Store<S>>, R: Read + 
         Job::Serve {
             port,
             db: _,
+            existing: _,
             at,
             streams,
         } => serve::execute_serve_job_in_file(rt, files, path, *port, *at, *streams, store),

@@ -53,6 +53,14 @@ impl<'a> PlaceFiles<MachinePlace<'a>> {
             place: MachinePlace::new(rt),
         }
     }
+
+    /// The desks in the files of the machine, for a job that changes a desk and creates none.
+    pub fn with_desks(rt: &'a HostRuntime) -> PlaceFiles<MachinePlace<'a>> {
+        PlaceFiles {
+            alloc: rt.alloc(),
+            place: MachinePlace::with_desks(rt),
+        }
+    }
 }
 
 impl<S: Alter, P: FilePlace<Open = Connection<S>>> DeskFiles for PlaceFiles<P> {

@@ -4,7 +4,8 @@ ghost use Rattle.std.specs.Prelude.{ℕ, Bool, List, OnOk, Result};
 ghost use Rattle.brk_cli_jobs.specs.Files.{HasLastCommitInFile};
 ghost use Rattle.brk_money.specs.declared.fault.StoreFailed.{StoreFailed};
 
-use crate::examining::may_open_or_create;
+use crate::examining::{may_have_commit, may_open_or_create};
+use crate::log_rights::restrict_log;
 use crate::log_writing::write_log_again;
 use brk_money::StoreFailed;
 use sqlite::{Connection, File, FileStore};
@@ -41,11 +42,31 @@ pub trait FilePlace {
 #[derive(Clone, Copy)]
 pub struct MachinePlace<'a> {
     rt: &'a HostRuntime,
+    tells_lost: bool,
 }
 
 impl<'a> MachinePlace<'a> {
     pub fn new(rt: &'a HostRuntime) -> MachinePlace<'a> {
-        MachinePlace { rt }
+        MachinePlace {
+            rt,
+            tells_lost: false,
+        }
+    }
+
+    /// The files of the machine, for a job that changes a desk and creates none. A file that is
+    /// missing or empty beside a log with a commit is not found so, and cannot be opened.
+    pub fn with_desks(rt: &'a HostRuntime) -> MachinePlace<'a> {
+        MachinePlace {
+            rt,
+            tells_lost: true,
+        }
+    }
+
+    fn is_blank(&self, path: &str) -> bool {
+        match fs::metadata(self.rt, path) {
+            Ok(found) => found.is_file() && found.len() == 0,
+            Err(error) => error.kind() == ErrorKind::NotFound,
+        }
     }
 }
 
@@ -77,16 +98,18 @@ impl FilePlace for MachinePlace<'_> {
     /// Returns false also if the file cannot be examined for another reason than that it is not
     /// found.
     fn is_missing_or_empty(&self, path: &str) -> bool {
-        match fs::metadata(self.rt, path) {
-            Ok(found) => found.is_file() && found.len() == 0,
-            Err(error) => error.kind() == ErrorKind::NotFound,
-        }
+        self.is_blank(path) && !(self.tells_lost && may_have_commit(self.rt, path))
     }
 
-    /// Fails, and leaves the file and its log as they are, if the file is neither a database nor
-    /// what a creation that was stopped leaves, or if none was made yet and its log has a commit.
+    /// Fails, and leaves the file and its log as they are, if the log is damaged, if the file is
+    /// neither a database nor what a creation that was stopped leaves, or if none was made yet and
+    /// its log has a commit. Fails also if the log has wider rights than the file, and they cannot
+    /// be taken from it.
     fn connect(&self, path: &str) -> Result<Connection<FileStore<File>>, StoreFailed> {
-        if !may_open_or_create(self.rt, path) || write_log_again(self.rt, path).is_err() {
+        if !may_open_or_create(self.rt, path) {
+            return Err(StoreFailed);
+        }
+        if restrict_log(self.rt, path).is_err() || write_log_again(self.rt, path).is_err() {
             return Err(StoreFailed);
         }
         match Connection::open(self.rt, path) {

@@ -3,7 +3,7 @@
 ghost use Rattle.std.specs.Prelude.{◌≡◌};
 ghost use Rattle.brk_cli_jobs.specs.BatchText.{CompletesBatchOfJob, PrintsBatchOfJob};
 ghost use Rattle.brk_cli_jobs.specs.JobText.{PrintsJobAt};
-ghost use Rattle.brk_cli_jobs.specs.Places.{ExecutesJobAt, ExecutesJobInExistingFile, PrintsOkAfterAudit, RunsJob, place_of_job, place_of_optional_path};
+ghost use Rattle.brk_cli_jobs.specs.Places.{ExecutesJobAt, ExecutesJobInExistingFile, ExecutesJobInFile, PrintsOkAfterAudit, RunsJob, place_of_job, place_of_optional_path};
 ghost use Rattle.brk_cli_jobs.specs.Requested.{AnswersRequest, WritesHelpText, abstract_place};
 
 use crate::audit::write_audit_ok;
@@ -37,14 +37,17 @@ enum Place<'a> {
     /// In the file at a path; a desk is created if the file is missing or empty or has no table of
     /// a desk.
     FileOrNewFile(&'a str),
-    /// In the file at a path, which must exist.
+    /// In the file at a path, which must have a desk that the job changes.
+    FileWithDesk(&'a str),
+    /// In the file at a path, which must have a desk that the job reads.
     ExistingFile(&'a str),
 }
 
-fn place_of_path(db: &Option<String>) -> Place<'_>
-    ensures { abstract_place result ≡ place_of_optional_path db.now }
+fn place_of_path(db: &Option<String>, existing: bool) -> Place<'_>
+    ensures { abstract_place result ≡ place_of_optional_path db.now existing }
 {
     match db {
+        Some(path) if existing => Place::FileWithDesk(path.as_str()),
         Some(path) => Place::FileOrNewFile(path.as_str()),
         None => Place::Memory,
     }
@@ -54,14 +57,40 @@ fn job_place(job: &Job) -> Place<'_>
     ensures { abstract_place result ≡ place_of_job job.now }
 {
     match job {
-        Job::Batch { db, .. } => place_of_path(db),
-        Job::Serve { db, .. } => place_of_path(db),
+        Job::Batch { db, existing, .. } => place_of_path(db, *existing),
+        Job::Serve { db, existing, .. } => place_of_path(db, *existing),
         Job::Statement { db, .. } => Place::ExistingFile(db.as_str()),
         Job::Statements { db, .. } => Place::ExistingFile(db.as_str()),
         Job::Ask { db, .. } => Place::ExistingFile(db.as_str()),
         Job::Explain { db, .. } => Place::ExistingFile(db.as_str()),
         Job::Audit { db } => Place::ExistingFile(db.as_str()),
     }
+}
+
+/// Returns the path of the file of a job's desk, none if the desk is in memory.
+pub(crate) fn path_of_job(job: &Job) -> Option<&str> {
+    match job_place(job) {
+        Place::Memory => None,
+        Place::FileOrNewFile(path) | Place::FileWithDesk(path) | Place::ExistingFile(path) => Some(
+            path,
+        ),
+    }
+}
+
+// The file at `path` must have a desk.
+fn execute_in_opened_file<S: Alter, F: DeskFiles<Desk = Store<S>>, R: Read + Drop, W: Write>(
+    rt: &HostRuntime,
+    files: &F,
+    path: &str,
+    job: &Job,
+    input: R,
+    output: &mut PipeWriter<W>,
+) -> Ending
+    ensures { ExecutesJobInFile S.Store F.opens F.opens F.closes rt.entry job.now path.now
+        (record { input = R.remaining input; before = W.contents output.old.output; after = W.contents output.new.output }) result }
+{
+    let opened = files.open(path);
+    execute_job_on_opened(rt, files, path, opened, job, input, output)
 }
 
 // Wrong words are refused before the file is opened.
@@ -77,10 +106,7 @@ fn execute_in_existing_file<S: Alter, F: DeskFiles<Desk = Store<S>>, R: Read + D
         (record { input = R.remaining input; before = W.contents output.old.output; after = W.contents output.new.output }) result }
 {
     match check_words(rt.alloc(), job) {
-        Ok(Ok(())) => {
-            let opened = files.open(path);
-            execute_job_on_opened(rt, files, path, opened, job, input, output)
-        }
+        Ok(Ok(())) => execute_in_opened_file(rt, files, path, job, input, output),
         Ok(Err(refusal)) => Ending::Statement(ReportFault::Refused(refusal)),
         Err(_) => Ending::Open(Fault::Memory),
     }
@@ -102,6 +128,7 @@ fn execute_job_at_place<S: Alter, F: DeskFiles<Desk = Store<S>>, R: Read + Drop,
             let opened = files.open_or_create(path);
             execute_job_on_opened(rt, files, path, opened, job, input, output)
         }
+        Place::FileWithDesk(path) => execute_in_opened_file(rt, files, path, job, input, output),
         Place::ExistingFile(path) => execute_in_existing_file(rt, files, path, job, input, output),
     }
 }
@@ -136,7 +163,7 @@ pub fn execute_job<S: Alter, F: DeskFiles<Desk = Store<S>>, R: Read + Drop, W: W
         (record { input = R.remaining input; before = W.contents output.old.output; after = W.contents output.new.output }) result }
     // `Done` after a batch with a file, at a fixed time, means that exactly the text of the batch
     // from any base that the file represented was written.
-    ensures completed { CompletesBatchOfJob S.Store F.opens_or_creates F.closes job.now (R.remaining input)
+    ensures completed { CompletesBatchOfJob S.Store F.opens_or_creates F.opens F.closes job.now (R.remaining input)
         (record { input = R.remaining input; before = W.contents output.old.output; after = W.contents output.new.output }) result }
     // `Done` after a job that reads a file means that exactly the model's text of the job from any
     // base that the file represented was written. A refusal is the model's, and nothing was written.

@@ -11,6 +11,14 @@ use sqlite::{File, FileStore};
 use sqlite_trees::store::Store;
 use std::io::{Read, Write};
 
+fn files_for<'a>(rt: &'a HostRuntime, requested: &Result<Job, UsageFault>) -> MachineFiles<'a> {
+    match requested {
+        Ok(Job::Batch { existing: true, .. } | Job::Serve { existing: true, .. }) =>
+            MachineFiles::with_desks(rt),
+        _ => MachineFiles::new(rt),
+    }
+}
+
 /// Does what `execute_requested_job` does, with the desks in the files of the machine.
 pub fn execute_requested_job_on_machine<R: Read + Drop, W: Write>(
     rt: &HostRuntime,
@@ -22,5 +30,6 @@ pub fn execute_requested_job_on_machine<R: Read + Drop, W: Write>(
         ⟦<MachineFiles<'static> as DeskFiles>⟧.closes rt.entry requested
         (record { input = R.remaining input; before = W.contents output.old.output; after = W.contents output.new.output }) result }
 {
-    execute_requested_job(rt, &MachineFiles::new(rt), requested, input, output)
+    let files = files_for(rt, &requested);
+    execute_requested_job(rt, &files, requested, input, output)
 }

@@ -10,12 +10,14 @@ use crate::reopening::ready_store;
 use brk_cli_exit::{Ending, ending_after_close};
 use brk_desk::Desk;
 use brk_http::{ListenFault, serve_listener};
+use brk_http_limits::TimedListener;
 use brk_io::{Clock, ProgramClock};
 use brk_money::Stamp;
 use brk_store::Store;
 use sqlite::Alter;
 use std::alloc::Global;
 use std::net::TcpListener;
+use std::time;
 
 fn result_of_serving(served: Result<(), ListenFault>) -> Result<(), Ending>
     ensures { result ≡ result_of_serving served }
@@ -40,7 +42,7 @@ fn ending_of_serving(served: Result<(), Ending>) -> Ending
 /// its peer broke off, also before it was accepted, or whose reading or writing failed counts as
 /// one. Fails with `Serve` if memory ran out in a stream, and with `Net` if a stream cannot be
 /// accepted for another reason than that its peer broke it off. The changes of the requests that
-/// were executed before a fault remain.
+/// were executed before a fault remain. Each read and each write of a stream has 30 seconds.
 pub fn serve_on<C: Clock, S: Alter>(
     alloc: Global,
     listener: &TcpListener,
@@ -52,6 +54,57 @@ pub fn serve_on<C: Clock, S: Alter>(
 {
     let mut listener = listener;
     result_of_serving(serve_listener(alloc, &mut listener, streams, clock, desk))
+}
+
+/// Serves streams as `serve_on` does, of a listener that limits the time of each request, of each
+/// reply and of each stream.
+fn serve_timed<K: time::Clock, C: Clock, S: Alter>(
+    alloc: Global,
+    listener: &mut TimedListener<'_, K>,
+    streams: u32,
+    clock: &mut C,
+    desk: &mut Desk<S>,
+) -> Result<(), Ending>
+    ensures { ServesListener S.Store C.gives streams clock.old clock.new desk.old desk.new result }
+{
+    result_of_serving(serve_listener(alloc, listener, streams, clock, desk))
+}
+
+/// A listener whose streams are served on a desk.
+trait DeskListener {
+    /// Does what `serve_on` does.
+    fn serve_streams<C: Clock, S: Alter>(
+        &mut self,
+        alloc: Global,
+        streams: u32,
+        clock: &mut C,
+        desk: &mut Desk<S>,
+    ) -> Result<(), Ending>
+        ensures { ServesListener S.Store C.gives streams clock.old clock.new desk.old desk.new result };
+}
+
+impl DeskListener for &TcpListener {
+    fn serve_streams<C: Clock, S: Alter>(
+        &mut self,
+        alloc: Global,
+        streams: u32,
+        clock: &mut C,
+        desk: &mut Desk<S>,
+    ) -> Result<(), Ending> {
+        serve_on(alloc, *self, streams, clock, desk)
+    }
+}
+
+impl<K: time::Clock> DeskListener for TimedListener<'_, K> {
+    fn serve_streams<C: Clock, S: Alter>(
+        &mut self,
+        alloc: Global,
+        streams: u32,
+        clock: &mut C,
+        desk: &mut Desk<S>,
+    ) -> Result<(), Ending> {
+        serve_timed(alloc, self, streams, clock, desk)
+    }
 }
 
 /// Returns `Net` also if the port of 127.0.0.1 cannot be opened.
@@ -68,31 +121,32 @@ pub(crate) fn execute_serve_job<S: Alter>(
         return Ending::Net;
     };
     let mut clock = ProgramClock::new(rt, at);
-    ending_of_serving(serve_on(rt.alloc(), &listener, streams, &mut clock, desk))
+    let mut timed = TimedListener::new(&listener, rt);
+    ending_of_serving(serve_timed(rt.alloc(), &mut timed, streams, &mut clock, desk))
 }
 
 // If the stream ends because memory ran out, or cannot be accepted, the file is closed.
-fn serve_stream_or_close<S: Alter, F: DeskFiles<Desk = Store<S>>, C: Clock>(
+fn serve_stream_or_close<S: Alter, F: DeskFiles<Desk = Store<S>>, L: DeskListener, C: Clock>(
     alloc: Global,
     files: &F,
-    listener: &TcpListener,
+    listener: &mut L,
     clock: &mut C,
     store: Store<S>,
 ) -> Result<Store<S>, Ending>
     ensures { ServesStreamOrCloses S.Store F.closes C.gives clock.old clock.new store result }
 {
     let mut desk = Desk::new(store);
-    match serve_on(alloc, listener, 1, clock, &mut desk) {
+    match listener.serve_streams(alloc, 1, clock, &mut desk) {
         Ok(()) => Ok(desk.into_store()),
         Err(ending) => Err(ending_after_close(ending, files.close(desk.into_store()))),
     }
 }
 
-fn serve_next_stream<S: Alter, F: DeskFiles<Desk = Store<S>>, C: Clock>(
+fn serve_next_stream<S: Alter, F: DeskFiles<Desk = Store<S>>, L: DeskListener, C: Clock>(
     alloc: Global,
     files: &F,
     path: &str,
-    listener: &TcpListener,
+    listener: &mut L,
     clock: &mut C,
     store: Store<S>,
 ) -> Result<Store<S>, Ending>
@@ -102,6 +156,29 @@ fn serve_next_stream<S: Alter, F: DeskFiles<Desk = Store<S>>, C: Clock>(
         Ok(store) => serve_stream_or_close(alloc, files, listener, clock, store),
         Err(fault) => Err(Ending::Open(fault)),
     }
+}
+
+fn serve_file_by<S: Alter, F: DeskFiles<Desk = Store<S>>, L: DeskListener, C: Clock>(
+    alloc: Global,
+    files: &F,
+    path: &str,
+    listener: &mut L,
+    streams: u32,
+    clock: &mut C,
+    store: Store<S>,
+) -> Ending
+    ensures { ServesStreamsAndCloses S.Store F.opens F.closes C.gives path.now streams clock.old store result }
+{
+    let mut store = store;
+    let mut served = 0u32;
+    'streams: while served < streams {
+        store = match serve_next_stream(alloc, files, path, listener, clock, store) {
+            Ok(next) => next,
+            Err(ending) => return ending,
+        };
+        served += 1;
+    }
+    ending_after_close(Ending::Done, files.close(store))
 }
 
 /// Serves `streams` streams of the listener in sequence on the store of the file at `path`, each as
@@ -119,16 +196,8 @@ pub fn serve_file_on<S: Alter, F: DeskFiles<Desk = Store<S>>, C: Clock>(
 ) -> Ending
     ensures { ServesStreamsAndCloses S.Store F.opens F.closes C.gives path.now streams clock.old store result }
 {
-    let mut store = store;
-    let mut served = 0u32;
-    'streams: while served < streams {
-        store = match serve_next_stream(alloc, files, path, listener, clock, store) {
-            Ok(next) => next,
-            Err(ending) => return ending,
-        };
-        served += 1;
-    }
-    ending_after_close(Ending::Done, files.close(store))
+    let mut listener = listener;
+    serve_file_by(alloc, files, path, &mut listener, streams, clock, store)
 }
 
 /// Serves streams like `execute_serve_job`, on the desk in the file at `path`, and closes the file.
@@ -149,11 +218,12 @@ pub(crate) fn execute_serve_job_in_file<S: Alter, F: DeskFiles<Desk = Store<S>>>
         return ending_after_close(Ending::Net, files.close(store));
     };
     let mut clock = ProgramClock::new(rt, at);
-    serve_file_on(
+    let mut timed = TimedListener::new(&listener, rt);
+    serve_file_by(
         rt.alloc(),
         files,
         path,
-        &listener,
+        &mut timed,
         streams,
         &mut clock,
         store,

@@ -1,11 +1,13 @@
+use Rattle.brk_cli_jobs.proofs.Peers.{without_peers}
 use Rattle.brk_cli_jobs.proofs.serve.serve_on.Goals as goal
 
 pub returns : goal.returns
 returns g c = record {
   listened = c.serve_listener.result;
-  first = c.args.listener;
-  last = c.serve_listener.new.listener;
   ended = c.result_of_serving.ensures;
   served = c.serve_listener.ensures.served;
-  taken = c.serve_listener.ensures.taken;
+  taken = without_peers _ _ g.S.Store g.C.Clock.gives _
+      (record { listener = c.args.listener; clock = c.args.clock.now; desk = c.args.desk.now })
+      (record { listener = c.serve_listener.new.listener; clock = c.serve_listener.new.clock; desk = c.serve_listener.new.desk })
+      c.serve_listener.result c.serve_listener.ensures.taken;
 }

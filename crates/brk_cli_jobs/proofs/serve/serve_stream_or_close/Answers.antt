@@ -6,7 +6,7 @@ pub returns-in-Err : goal.returns-in-Err
 returns-in-Err g c = (
   c.into_store-in-Err.result,
   c.in-Err.ending,
-  served_same g.S.Store g.F.DeskFiles.opens g.F.DeskFiles.closes [] g.C.Clock.gives c.args.clock.now c.serve_on.new.clock c.args.store c.new-desk.result
-      c.serve_on.new.desk c.into_store-in-Err.result (Err c.in-Err.ending) c.new-desk.ensures.same c.into_store-in-Err.ensures.same c.in-Err.ensures,
+  served_same g.S.Store g.F.DeskFiles.opens g.F.DeskFiles.closes [] g.C.Clock.gives c.args.clock.now c.serve_streams.new.clock c.args.store c.new-desk.result
+      c.serve_streams.new.desk c.into_store-in-Err.result (Err c.in-Err.ending) c.new-desk.ensures.same c.into_store-in-Err.ensures.same c.in-Err.ensures,
   (c.close.result, c.close.ensures, c.ending_after_close.ensures),
 )

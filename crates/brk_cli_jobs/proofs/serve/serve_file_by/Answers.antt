@@ -1,6 +1,6 @@
 use Rattle.std.proofs.Common.{arith, inl, inr}
 use Rattle.brk_cli_jobs.proofs.Sequence.{just_opened, none_served, one_more, runs_on}
-use Rattle.brk_cli_jobs.proofs.serve.serve_file_on.Goals as goal
+use Rattle.brk_cli_jobs.proofs.serve.serve_file_by.Goals as goal
 
 pub streams-init : goal.streams-init
 streams-init g c = record {

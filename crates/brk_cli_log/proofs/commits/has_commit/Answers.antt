@@ -1,8 +1,8 @@
 use Rattle.std.proofs.Common.{rules, ◌≡◌, ℕ, ◌+◌, ◌-◌, ◌*◌, ◌/◌, ◌<◌, ◌≤◌, length, arith, subst}
 use Rattle.sqlite_wal.specs.Format.{be32}
-use Rattle.brk_cli_jobs.specs.Examined.{HasCommitMarkAt, IsLog, frame_start}
-use Rattle.brk_cli_jobs.proofs.Frames.{frame_counted, frame_within}
-use Rattle.brk_cli_jobs.proofs.examining.log_has_commit.Goals as goal
+use Rattle.brk_cli_log.specs.Commits.{HasCommitMarkAt, IsLog, frame_start}
+use Rattle.brk_cli_log.proofs.Counted.{frame_counted, frame_within}
+use Rattle.brk_cli_log.proofs.commits.has_commit.Goals as goal
 
 pub returns-then-has_commit_mark : goal.returns-then-has_commit_mark
 returns-then-has_commit_mark c =

@@ -1,6 +1,6 @@
 use Rattle.std.proofs.Common.{◌≤◌, ◌-◌}
 use Rattle.brk_cli_jobs.specs.Serving.{RunsSinceOpening, ServesInSequence}
-use Rattle.brk_cli_jobs.proofs.serve.serve_file_on.Given as goal
+use Rattle.brk_cli_jobs.proofs.serve.serve_file_by.Given as goal
 
 abbrev pub invariant-streams : goal.invariant-streams
 invariant-streams g l = record {

@@ -1,0 +1,3 @@
+pub mod Chained
+pub mod Counted
+pub mod Lost
