@@ -21,7 +21,7 @@ MOST_ATTEMPTS = 100
 PAUSE = 0.01
 
 
-class NoCopy(Exception):
+class NoCopy(OSError):
     """No copy was made, for this reason."""
 
 
@@ -107,6 +107,6 @@ def copy_live(file, copy):
         copy_whole(file, copy)
     except BaseException as error:
         remove(copy)
-        if isinstance(error, (OSError, sqlite3.Error)):
+        if isinstance(error, (OSError, sqlite3.Error)) and not isinstance(error, NoCopy):
             raise NoCopy(f"{file}: {error}") from error
         raise

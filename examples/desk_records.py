@@ -6,8 +6,8 @@
 
 FOLDER is one of examples/send, with a folder for each batch, or the folder of one batch. No journal, folder or copy is changed.
 
-- **--verify** compares each accepted row with the table KEPT of COPY, a file of the desk that no program holds, by the order of the
-  stamps. It sends nothing. The first row that is missing there, or has another row or reply, ends it with status 5.
+- **--verify** compares each accepted row with the table KEPT of COPY, a file of the desk, which a service may hold, by the order
+  of the stamps. It sends nothing. The first row that is missing there, or has another row or reply, ends it with status 5.
 - **--records** prints a line for each accepted row, by the order of the stamps, each row once:
 
       [STAMP, BATCH, N, [FIELD, ..], [STAMP, FIELD, ..]]        the row and its reply
@@ -174,7 +174,7 @@ class Kept:
             with desk_books.copied(path) as conn:
                 (self.last,) = conn.execute("SELECT coalesce(D_LAST, -1) FROM DESK").fetchone()
                 self.rows = {(batch, number): (row, line) for batch, number, row, line in conn.execute("SELECT K_BATCH, K_N, K_ROW, K_LINE FROM KEPT")}
-        except (sqlite3.Error, TypeError) as error:
+        except (OSError, sqlite3.Error, TypeError) as error:
             raise desk_client.ClientError(f"no desk can be read: {path}: {error}") from None
 
     def require(self, record):
