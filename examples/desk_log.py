@@ -1,10 +1,12 @@
-"""Reads the log beside the file of a desk, as brk reads it before it opens the file: for examples/brk-why and examples/live-copy.
+"""Reads the log beside the file of a desk, as brk reads it before it opens the file, and the locks of both: for the scripts beside this one.
 
-    from desk_log import Log
+    from desk_log import Log, is_locked
 
-It needs Python 3.9.
+It needs Linux and Python 3.9.
 """
 
+import fcntl
+import os
 import pathlib
 import struct
 
@@ -12,6 +14,9 @@ LOG_HEADER, FRAME_HEADER = 32, 24
 # the length of a log without a frame, and the page of the frame that begins a commit behind a synced one
 EMPTIED_LOG, COUNT_PAGE = 41, b"\xff\0\0\0"
 LOG_MAGICS = (0x377F0682, 0x377F0683)
+# the bytes of a file on which SQLite and brk place their locks
+LOCK_START, LOCK_LENGTH = 1 << 30, 512
+FLOCK = "@hhqqi4x"
 # the size of a page, and the number of checkpoints, in the log of a file that is being created
 NEW_PAGE, NEW_COUNT = 4096, 0xFFFFFFFF
 
@@ -101,3 +106,11 @@ class Log:
     @property
     def begins_a_file(self):
         return self.is_log and self.page == NEW_PAGE and self.count == NEW_COUNT
+
+
+def is_locked(path):
+    """Whether another program has a lock on a file that keeps brk out."""
+    asked = struct.pack(FLOCK, fcntl.F_WRLCK, os.SEEK_SET, LOCK_START, LOCK_LENGTH, 0)
+    with open(path, "rb") as opened:
+        found = fcntl.fcntl(opened, fcntl.F_OFD_GETLK, asked)
+    return struct.unpack(FLOCK, found)[0] != fcntl.F_UNLCK

@@ -115,7 +115,9 @@ def add_batch(source, part):
     no line of a later sending that was cut short, may have been accepted then: it has no reply."""
     try:
         batch, rows = desk_client.batch_read((part / "batch.csv").read_text("utf-8"))
-        reading = int((part / "batch.at").read_text())
+        at = part / "batch.at"
+        # a batch that went over a door has no reading: that of its storing stands for it
+        reading = int(at.read_text()) if at.exists() else (part / "batch.csv").stat().st_mtime_ns // 1_000_000
     except (OSError, ValueError, desk_client.ClientError) as error:
         raise desk_client.ClientError(f"no batch of examples/send: {part}: {error}") from None
     accepted, last = {}, {}
