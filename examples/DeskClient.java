@@ -50,6 +50,8 @@ public final class DeskClient implements AutoCloseable {
     static final int MOST_REQUESTS = 1000;
     // how long a reply may take: without a door others' streams come first
     static final int REPLY_MILLIS = 120_000;
+    // the desk ends a stream that is idle for a second, so one that is idle for longer than this is not used again
+    static final long IDLE_MILLIS = 500;
     static final int CONNECT_MILLIS = 5_000;
     // the port and the secret of the package's door, and its settings
     static final String DOOR_PORT = "8123";
@@ -653,8 +655,8 @@ public final class DeskClient implements AutoCloseable {
         return lines.stream().filter(line -> line.startsWith("BRK_PORT=")).map(line -> line.substring(9).strip()).reduce(DOOR_PORT, (first, last) -> last);
     }
 
-    /** A desk behind its door, or served without one, on a port of this machine. A door takes one request a connection, and a desk a
-        thousand. */
+    /** A desk behind its door, or served without one, on a port of this machine. A door takes one request a stream; a desk takes a thousand
+     * on one, which is used while none of its pauses is longer than IDLE_MILLIS. */
     public static final class Http extends Desk {
         private final int port;
         private final Path key;
@@ -662,6 +664,7 @@ public final class DeskClient implements AutoCloseable {
         private Socket stream;
         private InputStream input;
         private int left;
+        private long used;
 
         /** The patience is in seconds; null waits for ever. */
         public Http(int port, Integer patience) {
@@ -680,7 +683,7 @@ public final class DeskClient implements AutoCloseable {
 
         private Map.Entry<String, Object> once(String target, List<String> texts) throws IOException, ClientException {
             try {
-                if (left == 0) {
+                if (left == 0 || System.nanoTime() - used > IDLE_MILLIS * 1_000_000L) {
                     open();
                 }
                 left--;
@@ -691,7 +694,9 @@ public final class DeskClient implements AutoCloseable {
                 request.writeBytes(head.getBytes(StandardCharsets.US_ASCII));
                 request.writeBytes(body);
                 stream.getOutputStream().write(request.toByteArray());
-                return reply();
+                var found = reply();
+                used = System.nanoTime();
+                return found;
             } catch (IOException error) {
                 close();
                 throw error;
@@ -801,8 +806,8 @@ public final class DeskClient implements AutoCloseable {
         }
     }
 
-    /** A desk in a file that no service holds: `brk batch` and `brk ask` run on it. The file exists and is not empty, since brk would
-     * make a new desk otherwise; with `isNew` there is neither the file nor its log, and the first batch makes it. */
+    /** A desk in a file that no service holds: `brk batch --existing` and `brk ask` run on it. With `isNew` there is neither the file nor
+     * its log, and the first batch makes it. */
     public static final class CommandLine extends Desk {
         private final Path path;
         private final boolean isNew;
@@ -893,7 +898,11 @@ public final class DeskClient implements AutoCloseable {
         }
 
         private List<Answer> lines(byte[] text, int count, Set<Long> numbers, long reading) throws IOException, ClientException {
-            Done done = run(List.of("batch", "--db", path.toString(), "--at", Long.toString(reading)), text);
+            var words = new ArrayList<>(List.of("batch", "--db", path.toString(), "--at", Long.toString(reading)));
+            if (!isNew) {
+                words.add("--existing");
+            }
+            Done done = run(words, text);
             if (done.status != 0) {
                 throw new IOException(done.message);
             }

@@ -62,8 +62,10 @@ from desk_settings import whole_setting
 
 HERE = pathlib.Path(__file__).resolve().parent
 MOST_REQUESTS = 1000
-# how long a reply may take: without a door others' streams come first
+# how long a reply may take: without a door others' streams come first, each of them for up to a minute
 REPLY_SECONDS = 120
+# the desk ends a stream that is idle for a second, so one that is idle for longer than this is not used again
+IDLE_SECONDS = 0.5
 # the field of a request that has the secret of a door, and the secret and the port of the package's door
 KEY_FIELD, KEY_FILE, DOOR_PORT = "X-Brk-Key", "/etc/brk/door.key", 8123
 MOST_BODY_BYTES = 65_536
@@ -395,12 +397,13 @@ def patiently(patience, action, what):
 
 
 class Http:
-    """A desk behind its door, or served without one, on a port of this machine. A door takes one request a connection, and a desk a
-    thousand. Close it when nothing is to be sent: without a door others wait as long as it is open. `key` is the path of a secret."""
+    """A desk behind its door, or served without one, on a port of this machine. A door takes one request a stream; a desk takes a thousand
+    on one, which is used while none of its pauses is longer than IDLE_SECONDS. Close it when nothing is to be sent. `key` is the path of a
+    secret."""
 
     def __init__(self, port, patience=None, key=None):
         self.port, self.patience, self.key = port, patience, key
-        self.stream, self.left, self.fields = None, 0, {}
+        self.stream, self.left, self.used, self.fields = None, 0, 0.0, {}
 
     def require(self, stored, rows):
         """Any number of rows can be sent, also while the desk is away."""
@@ -411,7 +414,7 @@ class Http:
 
     def once(self, target, texts):
         try:
-            if self.left == 0:
+            if self.left == 0 or time.monotonic() - self.used > IDLE_SECONDS:
                 self.close()
                 secret = secret_for(self.port, self.key)
                 self.fields = {KEY_FIELD: secret} if secret else {}
@@ -428,6 +431,7 @@ class Http:
             if reply.getheader("Content-Length") is None:
                 raise ConnectionError("the reply is cut")
             (word, value), = json.loads(reply.read()).items()
+            self.used = time.monotonic()
         except (ValueError, AttributeError) as error:
             self.close()
             raise NotSent(f"port {self.port} gives no reply of a desk: {target}") from error
@@ -471,8 +475,8 @@ def program():
 
 
 class File:
-    """A desk in a file that no service holds: `brk batch` and `brk ask` run on it. The file exists and is not empty, since brk would
-    make a new desk otherwise; with `new` there is neither the file nor its log, and the first batch makes it."""
+    """A desk in a file that no service holds: `brk batch --existing` and `brk ask` run on it. With `new` there is neither the file nor its
+    log, and the first batch makes it."""
 
     def __init__(self, path, patience=None, new=False):
         self.path, self.patience, self.new = os.fspath(path), patience, new
@@ -511,7 +515,7 @@ class File:
         yield patiently(self.patience, lambda: self.lines(text, set(numbers), len(sent), reading), self.path)
 
     def lines(self, text, numbers, count, reading):
-        status, output, message = self.run(["batch", "--db", self.path, "--at", str(reading)], text)
+        status, output, message = self.run(["batch", "--db", self.path, *([] if self.new else ["--existing"]), "--at", str(reading)], text)
         # a line is complete once its line feed is there
         lines = [line.split(",") for line in output.decode("ascii", "replace").split("\n")[:-1]]
         if status:

@@ -63,6 +63,10 @@ class Log:
     def commits(self, place):
         return self.content[self.at(place) + 4 :][:4] != bytes(4)
 
+    def has_first_salts(self, place):
+        """Whether a frame has the salts of the first one, which are those of the header unless that is wrong."""
+        return self.content[self.at(place) + 8 :][:8] == self.content[self.at(0) + 8 :][:8]
+
     def is_signed(self):
         return self.is_log and checksum(self.order, (0, 0), self.content[:24]) == struct.unpack_from(">2I", self.content, 24)
 
@@ -87,6 +91,7 @@ class Log:
         """Looks for what no crash leaves: a wrong header, or a synced commit behind a frame that does not pass."""
         if not self.is_signed():
             self.is_damaged = self.content[0] != 0
+            self.behind = sum(self.commits(place) for place in range(self.frames) if self.has_first_salts(place))
             return
         while self.place < self.frames and self.passes(self.place):
             self.before += self.commits(self.place)

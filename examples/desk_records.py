@@ -280,7 +280,7 @@ def runs_of(records):
 def send_run(desk, run):
     """Sends a run of records, by a service of its own that has the stamp of the first as its clock."""
     port = free_port()
-    words = [desk_client.program(), "serve", "--port", str(port), "--db", desk, "--at", str(run[0].stamp), "--streams", "1"]
+    words = [desk_client.program(), "serve", "--port", str(port), "--db", desk, "--existing", "--at", str(run[0].stamp), "--streams", "1"]
     try:
         service = subprocess.Popen(words, stdin=subprocess.DEVNULL, stdout=subprocess.DEVNULL, stderr=subprocess.PIPE, preexec_fn=end_with_us)
     except OSError as error:

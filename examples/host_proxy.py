@@ -166,7 +166,7 @@ def listens(port):
 
 def start_desk(brk, path, port):
     """Starts `brk serve`, and waits until it has audited the file and listens."""
-    words = ["serve", "--port", str(port), "--db", path, "--streams", str(STREAMS)]
+    words = ["serve", "--port", str(port), "--db", path, "--existing", "--streams", str(STREAMS)]
     desk = subprocess.Popen([brk, *words], stdin=subprocess.DEVNULL)
     until = time.monotonic() + START_SECONDS
     while not listens(port):
