@@ -22,7 +22,7 @@ DAY, PACKAGE = "2026-11-29", re.compile(r"brk_[\d.]+-(\d+)_amd64\.deb")
 PORT = 8123
 SECONDS = 120
 # no python3 and no sqlite3: apt installs them with the package
-PARTS, NEEDED = "systemd-sysv,dbus,sudo,ca-certificates,procps", ["python3", "sqlite3"]
+PARTS, NEEDED = "systemd-sysv,dbus,sudo,ca-certificates,procps", ["haproxy", "python3", "sqlite3"]
 DESK = "/var/lib/brk/desk.db"
 # prints the status and the body of a reply, once a desk listens
 POST = """
