@@ -370,14 +370,22 @@ def secret_for(port, key=None):
         raise NotSent(f"the secret of the door cannot be read: {path}: {why}: join the group brk-clients, or name its file by --key") from None
 
 
-def require_reply(port, status, value):
-    """Raises an error for a reply of a door, or of a desk that failed, after which a row is sent again, or cannot be sent."""
-    if status == 408 or (status == 503 and value.startswith("busy")):
+def answer_of(port, status, body):
+    """Returns the word and the value of a reply. Raises NotReached or ConnectionError for one of a door, or of a desk that failed, after which
+    a row is sent again, and NotSent for one after which it cannot be sent."""
+    try:
+        (word, value), = json.loads(body).items()
+    except (ValueError, AttributeError):
+        word, value = None, f"status {status}"
+    if status == 408 or (status == 503 and str(value).startswith("busy")):
         raise NotReached(f"{value}: see whether the desk runs: systemctl status brk.service")
     if status in (502, 503, 504):
         raise ConnectionError(value)
     if status == 403:
         raise NotSent(f"the door at port {port} refuses this program: {value}: name the file of its secret by --key, or join the group brk-clients")
+    if word is None:
+        raise NotSent(f"port {port} gives no reply of a desk: {value}")
+    return word, value
 
 
 def patiently(patience, action, what):
@@ -430,18 +438,14 @@ class Http:
             reply = self.stream.getresponse()
             if reply.getheader("Content-Length") is None:
                 raise ConnectionError("the reply is cut")
-            (word, value), = json.loads(reply.read()).items()
+            body = reply.read()
             self.used = time.monotonic()
-        except (ValueError, AttributeError) as error:
-            self.close()
-            raise NotSent(f"port {self.port} gives no reply of a desk: {target}") from error
         except BaseException:
             self.close()
             raise
         if reply.getheader("Connection") == "close" or reply.status >= 500:
             self.close()
-        require_reply(self.port, reply.status, value)
-        return word, value
+        return answer_of(self.port, reply.status, body)
 
     def close(self):
         if self.stream is not None:
