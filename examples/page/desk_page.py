@@ -78,7 +78,7 @@ def now():
 
 
 def has_desk(path):
-    """Whether there is a file that is not empty: of another path `brk serve` would make a new desk."""
+    """Whether there is a file that is not empty."""
     return os.path.isfile(path) and os.path.getsize(path) > 0
 
 
@@ -98,7 +98,7 @@ class Service:
         if not has_desk(self.path):
             raise Unreachable("no desk there")
         self.messages = tempfile.TemporaryFile()
-        words = ["serve", "--port", str(self.port), "--db", self.path, "--streams", str(STREAMS)]
+        words = ["serve", "--port", str(self.port), "--db", self.path, "--existing", "--streams", str(STREAMS)]
         self.process = subprocess.Popen(
             [self.brk, *words], stdin=subprocess.DEVNULL, stdout=subprocess.DEVNULL, stderr=self.messages
         )

@@ -22,23 +22,27 @@ DAY, PACKAGE = "2026-11-29", re.compile(r"brk_[\d.]+-(\d+)_amd64\.deb")
 PORT = 8123
 SECONDS = 120
 # no python3 and no sqlite3: apt installs them with the package
-PARTS, NEEDED = "systemd-sysv,dbus,sudo,ca-certificates,procps", ["python3", "sqlite3"]
+PARTS, NEEDED = "systemd-sysv,dbus,sudo,ca-certificates,procps", ["haproxy", "python3", "sqlite3"]
 DESK = "/var/lib/brk/desk.db"
-# prints the status and the body of a reply, once a desk listens
+KEY = "etc/brk/door.key"
+# prints the status and the body of a reply, once the door has a desk
 POST = """
 import http.client, sys, time
-port, target, body, until = int(sys.argv[1]), sys.argv[2], sys.argv[3], time.monotonic() + float(sys.argv[4])
+port, target, body, until, key = int(sys.argv[1]), sys.argv[2], sys.argv[3], time.monotonic() + float(sys.argv[4]), sys.argv[5]
 while True:
     try:
         stream = http.client.HTTPConnection("127.0.0.1", port, timeout=60)
-        stream.request("POST", target, body)
+        stream.request("POST", target, body, {"X-Brk-Key": key})
         reply = stream.getresponse()
-        print(reply.status, reply.read().decode())
-        break
+        told = reply.read().decode()
+        if reply.status not in (502, 503, 504):
+            print(reply.status, told)
+            break
     except (ConnectionError, http.client.HTTPException):
-        if time.monotonic() > until:
-            sys.exit("it does not listen")
-        time.sleep(0.2)
+        told = "it does not listen"
+    if time.monotonic() > until:
+        sys.exit(told)
+    time.sleep(0.2)
 """
 
 
@@ -125,9 +129,10 @@ class Machine:
         """What a command prints, without the last line feed."""
         return self.run(command)[1].strip()
 
-    def posted(self, target, body, port=PORT):
-        """The status and the body of a reply of the machine's desk."""
-        words = ["nsenter", f"--target={self.first}", "--net", sys.executable, "-c", POST, str(port), target, json.dumps(body), str(SECONDS)]
+    def posted(self, target, body, port=PORT, key=None, seconds=SECONDS):
+        """The status and the body of a reply of the machine's desk, over its door."""
+        key = (self.root / KEY).read_text().strip() if key is None else key
+        words = ["nsenter", f"--target={self.first}", "--net", sys.executable, "-c", POST, str(port), target, json.dumps(body), str(seconds), key]
         done = subprocess.run(words, stdin=subprocess.DEVNULL, capture_output=True, text=True)
         status, _, text = done.stdout.partition(" ")
         return (int(status), text) if done.returncode == 0 else (None, done.stderr)
