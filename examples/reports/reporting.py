@@ -87,7 +87,7 @@ def of_sql(text_of):
 
 def why(path, error):
     """Says what an error means that came while a file was read."""
-    text = str(error)
+    text = str(error).removeprefix(f"{path}: ")
     if "not a database" in text or "malformed" in text:
         return f"no desk: {path}: {text}"
     if "no such table: DESK" in text:

@@ -16,7 +16,7 @@ import time
 from cases import BUILT, TOP, Cases, arguments, left_out, require
 
 PAGE = TOP / "docs/PACKAGE.md"
-RUN_HERE = "<!-- not run: tools/trials/try_package -->"
+RUN_HERE = re.compile(r"<!-- not run: tools/trials/try_(?:package|service) -->")
 # the day and the packages that the page names
 DAY, PACKAGE = "2026-11-29", re.compile(r"brk_[\d.]+-(\d+)_amd64\.deb")
 PORT = 8123
@@ -64,7 +64,7 @@ def page_blocks(packages):
     found = {}
     for section in PAGE.read_text(encoding="utf-8").split("\n## ")[1:]:
         title, _, text = section.partition("\n")
-        for part in text.split(RUN_HERE)[1:]:
+        for part in RUN_HERE.split(text)[1:]:
             block = part.lstrip("\n").partition("\n\n")[0].split("\n")
             lines = [line[4:] for line in block if line.startswith("    ")]
             found.setdefault(title, []).append([of_today(line, packages) for line in lines])
