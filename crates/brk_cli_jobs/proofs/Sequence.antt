@@ -72,13 +72,21 @@ module _ {S : Type 0} (g : Ghosts S) (opens : OpenRelation S) (closes : CloseRel
           served.served.served.served,
         )
 
-    pub none_served : (clock : C) (old : StampedDesk S) → ServesInSequence g opens closes gives path 0 clock clock old old
-    none_served clock old = (refl, refl)
+    -- the streams that were served so far, from the desk before the first one
+    abbrev pub ServedSoFar : ℕ → C → C → Held S → StampedDesk S → Type 0
+    ServedSoFar count clock later old last =
+        (first : StampedDesk S) × BeginsServing g old first × ServesInSequence g opens closes gives path count clock later first last
 
-    pub one_more : (count : ℕ) (clock mid later : C) (old last new : StampedDesk S) → ServesInSequence g opens closes gives path count clock mid old last
-        → ServesStream g opens closes gives path mid later last new (Ok tt) → ServesInSequence g opens closes gives path (count + 1) clock later old new
-    one_more count clock mid later old last new before served =
-        subst (λ (n : ℕ). ServesInSequence g opens closes gives path n clock later old new) (sym (add-one count)) (mid, last, before, served)
+    pub none_served : (clock : C) (old : Held S) (first : StampedDesk S) → BeginsServing g old first → ServedSoFar 0 clock clock old first
+    none_served clock old first began = (first, began, (refl, refl))
+
+    pub one_more : (count : ℕ) (clock mid later : C) (old : Held S) (last new : StampedDesk S) → ServedSoFar count clock mid old last
+        → ServesStream g opens closes gives path mid later last new (Ok tt) → ServedSoFar (count + 1) clock later old new
+    one_more count clock mid later old last new before served = (
+      before.0,
+      before.1,
+      subst (λ (n : ℕ). ServesInSequence g opens closes gives path n clock later before.0 new) (sym (add-one count)) (mid, last, before.2, served),
+    )
 
   module _ {R : Type 0} (machine : Bor R) (at : Option ℕ) where
     pub with_program_clock : (streams : ℕ) (clock : ProgramClock R) (old : Held S) (end : Ending) → clock ≡ program_clock machine at

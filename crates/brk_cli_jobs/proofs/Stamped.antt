@@ -1,5 +1,5 @@
 -- The last stamp of a store, read.
-use Rattle.std.proofs.Common.{◌≡◌, ℕ, List, Option, None, Some, Result, Ok, Err, inl, inr, refl, sym, subst, ap, ◌∙◌}
+use Rattle.std.proofs.Common.{◌≡◌, ◌↔◌, ℕ, Bool, IsTrue, List, Option, None, Result, Ok, Err, inl, inr, refl, sym, subst, ◌∙◌}
 use Rattle.std.specs.Result.{result_unwrap_or}
 use Rattle.sqlite_trees.specs.declared.store.Store.{Ghosts}
 use Rattle.sqlite.specs.Held.{Held}
@@ -14,6 +14,10 @@ use Rattle.brk_cli_jobs.specs.Files.{CloseRelation, OpenRelation}
 use Rattle.brk_cli_jobs.specs.Serving.{BeginsServing, OpensFileAgain, ReadsLastStamp, ReadsStampFrom, ResumesFile, ResumesFrom, ResumesOrCloses}
 
 module _ {S : Type 0} (g : Ghosts S) (kept : Option ℕ) (store new : Held S) where
+  pub reads_late : (found last : Option ℕ) (late : Bool) → found ≡ last → IsTrue late → (IsTrue late ↔ IsNotBefore last kept) → ReadsLastStamp g store new (Ok found)
+      → ReadsStampFrom g kept store new (Ok last)
+  reads_late found last late is passed test read = (subst (λ (o : Option ℕ). ReadsLastStamp g store new (Ok o)) is read, test.0 passed)
+
   resumed : (last : Option ℕ) → ReadsLastStamp g store new (Ok last) → IsNotBefore last kept → ResumesFrom g kept store (record { desk = new; stamp = last })
   resumed last read late = record {
     read = read;
@@ -41,13 +45,13 @@ module _ {S : Type 0} (g : Ghosts S) (store new : Held S) where
       inr (is, (failed, subst (λ (d : Held S). ReadsLastStamp g store d (Err failed)) (sym same) read))
   begins desk (Err failed) same is (inr early) = absurd (early.2 tt)
 
-module _ {S : Type 0} (g : Ghosts S) (opens : OpenRelation S) (closes : CloseRelation S) (path : List ℕ) (kept : Option ℕ) where
+module _ {S : Type 0} (g : Ghosts S) (closes : CloseRelation S) (kept : Option ℕ) where
   pub closes_behind : (store left last : Held S) (failed : StoreFailed) (closed : Result (Unit {0}) Fault) → last ≡ left → ReadsStampFrom g kept store left (Err failed)
       → closes last closed → ResumesOrCloses g closes kept store (Err fault.Store)
   closes_behind store left last failed closed same read shut =
       (refl, (left, (failed, read), (closed, subst (λ (d : Held S). closes d closed) same shut)))
 
-  pub resumes_file : (store : Held S) (result : Result (StampedDesk S) Fault) → OpensFileAgain opens closes path (Ok store) → ResumesOrCloses g closes kept store result
-      → ResumesFile g opens closes path kept result
-  resumes_file store (Ok desk) opened resumed = (store, opened, resumed)
-  resumes_file store (Err cause) opened closed = inr (store, opened, closed)
+  pub resumes_file : (opens : OpenRelation S) (path : List ℕ) (store : Held S) (result : Result (StampedDesk S) Fault) → OpensFileAgain opens closes path (Ok store)
+      → ResumesOrCloses g closes kept store result → ResumesFile g opens closes path kept result
+  resumes_file opens path store (Ok desk) opened resumed = (store, opened, resumed)
+  resumes_file opens path store (Err cause) opened closed = inr (store, opened, closed)

@@ -5,13 +5,11 @@ ghost use Rattle.std.specs.Prelude.{◌≡◌, IfOk, IsTrue, OnOk};
 ghost use Rattle.sqlite_disk.specs.Disk.{Only};
 
 use crate::examining::log_path;
+use brk_cli_log::EMPTIED_LEN;
 use sqlite_disk::{Disk, Unknown};
 use std::alloc::Global;
 use std::io::ErrorKind;
 use std::{fs, io};
-
-// The length of a log that was copied into the file.
-const EMPTIED: u64 = 41;
 
 fn read_whole<D: Disk>(alloc: Global, file: &mut D) -> io::Result<Vec<u8>>
     requires { IsTrue (D.Disk.is_usable file.old) }
@@ -40,7 +38,7 @@ fn write_again<D: Disk>(alloc: Global, file: &mut D) -> io::Result<()>
 // Returns whether the log beside the file at `path` may have a frame.
 fn may_have_frame(rt: &HostRuntime, path: &str) -> io::Result<bool> {
     match fs::symlink_metadata(rt, log_path(rt, path)?.as_str()) {
-        Ok(found) => Ok(found.len() > EMPTIED),
+        Ok(found) => Ok(found.len() > EMPTIED_LEN as u64),
         Err(error) if error.kind() == ErrorKind::NotFound => Ok(false),
         Err(error) => Err(error),
     }

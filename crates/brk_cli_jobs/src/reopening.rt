@@ -47,11 +47,10 @@ fn read_stamp_from<S: Alter>(
 ) -> Result<Option<Stamp>, StoreFailed>
     ensures { ReadsStampFrom S.Store kept store.old store.new result }
 {
-    let last = store.last_stamp()?;
-    if is_not_before(last, kept) {
-        Ok(last)
-    } else {
-        Err(StoreFailed)
+    match store.last_stamp()? {
+        None if is_not_before(None, kept) => Ok(None),
+        Some(last) if is_not_before(Some(last), kept) => Ok(Some(last)),
+        _ => Err(StoreFailed),
     }
 }
 

@@ -9,4 +9,4 @@ mod header;
 mod reading;
 
 pub use commits::begins_database;
-pub use reading::{LogReading, read_log};
+pub use reading::{EMPTIED_LEN, LogReading, read_log};

@@ -18,13 +18,13 @@ pub enum LogReading {
     WithoutCommit,
 }
 
-/// The length of a log that has a header and no frame.
-const EMPTIED: usize = 41;
+/// The length of a log that was copied into its file: a header, and no frame.
+pub const EMPTIED_LEN: usize = 41;
 
 fn is_damaged(log: &[u8]) -> bool
     ensures { IsTrue result ↔ IsDamaged log.now }
 {
-    if log.len() <= EMPTIED {
+    if log.len() <= EMPTIED_LEN {
         return false;
     }
     if is_signed(header(log)) {

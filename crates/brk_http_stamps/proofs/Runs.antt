@@ -1,5 +1,5 @@
 -- Runs of a desk that keeps the stamp of its replies.
-use Rattle.std.proofs.Common.{◌≡◌, ℕ, List, [], ◌∷◌, ◌++◌, map, refl, ap, subst, subst₂, sym, ◌∙◌}
+use Rattle.std.proofs.Common.{◌≡◌, ℕ, List, [], ◌∷◌, ◌++◌, map, ap, sym, ◌∙◌}
 use Rattle.sqlite_trees.specs.declared.store.Store.{Ghosts}
 use Rattle.brk_io.specs.Calls.{IsCallSequence}
 use Rattle.brk_desk.proofs.Made.{run_of, runs_joined}
@@ -52,9 +52,9 @@ module _ {S : Type 0} (g : Ghosts S) where
 
   -- the calls of the model are calls of the desk, which keep the stamp
   as_made : (old new : StampedDesk S) (calls : List (ℕ × Call)) (outcomes : List Outcome) → IsCallSequence StampedOutcome old calls outcomes new
-      → (made : List (ℕ × made.Call)) × (came : List came.Outcome)
-      × IsCallSequence (λ old now call outcome new. OutcomePost g old new now call outcome) old.desk made came new.desk
-      × (new.stamp ≡ stamp_after_outcomes old.stamp (map model_outcome came))
+      → (done : List (ℕ × made.Call)) × (results : List came.Outcome)
+      × IsCallSequence (λ old now call outcome new. OutcomePost g old new now call outcome) old.desk done results new.desk
+      × (new.stamp ≡ stamp_after_outcomes old.stamp (map model_outcome results))
   as_made old new [] [] same = ([], [], ap (λ d. d.desk) same, ap (λ d. d.stamp) same)
   as_made old new (c ∷ cs) (o ∷ os) (mid, acted, more) =
       let r = as_made mid new cs os more in
@@ -65,8 +65,8 @@ module _ {S : Type 0} (g : Ghosts S) where
         (mid.desk, acted.called.is_made, r.2),
         r.3 ∙ ap (λ kept. stamp_after_outcomes kept (map model_outcome r.1)) step,
       )
-  as_made old new [] (o ∷ os) made = absurd made
-  as_made old new (c ∷ cs) [] made = absurd made
+  as_made old new [] (o ∷ os) called = absurd called
+  as_made old new (c ∷ cs) [] called = absurd called
 
   pub stamped_calls : (old new : StampedDesk S) (calls : List (ℕ × Call)) (outcomes : List Outcome) → IsCallSequence StampedOutcome old calls outcomes new
       → IsSomeStampedRun g old new

@@ -36,22 +36,21 @@ module _ {S C : Type 0} (g : Ghosts S) (gives : C → ℕ → C → Type 0) wher
       (environment_change_with_bases old new (change_of_stream bytes clock later)) ended)
       → StampedDeskServesStream g gives bytes clock old ended later new
   serves_stream bytes clock old ended later new within early called results =
-      let outside = change_of_stream bytes clock later in
       let called_desk = changes_desk g gives (call_limit_of_stream ended) old new clock later called in
-      let desk_results = IfSome_then bytes.sent results (λ input h. results_at_desk g gives input old new outside ended h) in
+      let desk_results = IfSome_then bytes.sent results (λ input h. results_at_desk g gives input old new (change_of_stream bytes clock later) ended h) in
       let t = reads_clock g gives (call_limit_of_stream ended) old.desk new.desk clock later called_desk in
       record {
         served = record {
           by_calls = record { calls = t.0; outcomes = t.1; run = t.2; few = t.3; reads_clock = t.4; within = within; early = early };
           matched =
-              matches_if_known g gives bytes.sent old.desk new.desk outside ended (call_limit_of_stream ended)
-              (tells_run g gives bytes.sent old.desk new.desk outside ended called_desk desk_results);
+              matches_if_known g gives bytes.sent old.desk new.desk (change_of_stream bytes clock later) ended (call_limit_of_stream ended)
+              (tells_run g gives bytes.sent old.desk new.desk (change_of_stream bytes clock later) ended called_desk desk_results);
           refines_model =
               IfSome_then bytes.sent desk_results (λ input h.
               keeps model_parsers (λ old now call outcome new. DeskCallHasOutcome g old now call outcome new) IsOutcomeOfCall
               (λ desk. HasCleanDisk (state g desk)) (λ desk. Represents g desk)
               (λ old now call outcome new acts. earlier g old new now call outcome acts) (λ old now call outcome new acts. steps g old new now call outcome acts)
-              gives input old.desk new.desk outside ended h);
+              gives input old.desk new.desk (change_of_stream bytes clock later) ended h);
         };
         stamped =
             stamped_calls g old new called.0 called.1

@@ -8,4 +8,4 @@ returns-in-Ok g c =
 
 pub returns-in-Err : goal.returns-in-Err
 returns-in-Err g c =
-    closes_behind g.S.Store g.F.DeskFiles.opens g.F.DeskFiles.closes _ c.args.kept c.args.store c.read_stamp_from.new.store _ _ c.close.result refl c.in-Err.ensures c.close.ensures
+    closes_behind g.S.Store g.F.DeskFiles.closes c.args.kept c.args.store c.read_stamp_from.new.store _ _ c.close.result refl c.in-Err.ensures c.close.ensures

@@ -4,6 +4,7 @@ use Rattle.brk_http_stamps.proofs.Projected.{listens_at}
 use Rattle.brk_http_stamps.proofs.Runs.{not_stamped, stamped_then}
 use Rattle.brk_http_stamps.proofs.Serving.{ServesStampedPeer, peer_at_desk, stamped_for_peer}
 use Rattle.brk_http_stamps.specs.Stamped.{IsSomeStampedRun}
+use Rattle.brk_http_stamps.specs.declared.stamped_desk.StampedDesk.{StampedDesk}
 use Rattle.brk_http_stamps.proofs.listening.serve_stamped_listener.Goals as goal
 
 pub returns-clause-served : goal.returns-clause-served
@@ -14,6 +15,6 @@ returns-clause-served g c =
 
 pub returns-clause-taken : goal.returns-clause-taken
 returns-clause-taken g c =
-    listens_at (λ stamped. stamped.desk) g.L.Listener.accepts (ServesStampedPeer g.S.Store g.C.Clock.gives g.P.Peer.sends g.P.Peer.received)
+    listens_at (λ (stamped : StampedDesk _). stamped.desk) g.L.Listener.accepts (ServesStampedPeer g.S.Store g.C.Clock.gives g.P.Peer.sends g.P.Peer.received)
     (DeskServesPeer g.S.Store g.C.Clock.gives g.P.Peer.sends g.P.Peer.received)
     (peer_at_desk g.S.Store g.C.Clock.gives g.P.Peer.sends g.P.Peer.received) _ _ _ _ c.serve_each_stream.ensures
