@@ -12,6 +12,7 @@ A script of this tree imports it with the folder tools in sys.path:
     desk.ask("volume", "Tech", "Bo")                   # [("Bo", "1", "300.00")], or Refused
     desk.statement("100", "2024-03-01", "2024-03-31")  # a text, or Refused
     desk.statements("2024-03-01", "2024-03-31", "10")  # of a customer; without "10" of all
+    desk.explain("trade", "3")                         # a text, or Refused
     desk.tables()["HOLDING"]                           # rows as tuples, by key
     desk.audit()                                       # None, or the condition that fails
     desk.write(sqlite3.connect(path))                  # the tables in a database
@@ -24,6 +25,8 @@ Desk(base) is the desk of a base that a script makes of records itself, such as 
     lots         positions, and what a trade closes   books       what follows from the records
     step         one command                          views       one query
     statement    the statement of an account          printed     views as `brk ask` prints them
+    explain      explanations                         explain_trade  that of a trade
+    lines        the forms of their lines
     batches      CSV in, lines out                    streams     HTTP in, HTTP out
     tables       rows of a base, and back             database    tables in sqlite3
     audit        the conditions of the audit          desk        the calls above

@@ -1,7 +1,8 @@
 """Random days as transcripts.
 
-A day has a setting, batches of which one is sent again, a stream, queries, statements, the tables,
-the audit, and changes by another program. The day of an older schema begins with its database."""
+A day has a setting, batches of which one is sent again, a stream, queries, statements,
+explanations, the tables, the audit, and changes by another program. The day of an older schema
+begins with its database."""
 
 import json
 import pathlib
@@ -9,6 +10,7 @@ import random
 
 from .amounts import DAY, MOST_STAMP, day_of, day_text
 from .desk import Desk
+from .explain import FORMS
 from .forms import QUERIES
 from .printed import csv_line
 from .random_rows import FIRST, NAMES, SECTORS, SETTING, TRADING, Rows, opening_rows
@@ -20,6 +22,7 @@ AT_THE_END = 1 / 4  # of the days reach the end of the clock
 CHANGES = 12  # by another program
 FREE_MARKS = {"": (), "?": (None,)}  # columns that another program may change, with a value more
 REQUESTS = 6  # of a stream
+EXPLANATIONS = 8
 OTHER_REQUESTS = (("/nope", "[]"), ("/rows", "{}"), ("/ask/customer", '["x"]'), ("/rows/W/0", "[]"),
                   ("/ask/submitted", "[]"))
 
@@ -100,6 +103,16 @@ class Day:
         last = first + self.dice.randint(-1, 9)
         self.do(f"statement {account} {day_text(first)} {day_text(last)}")
 
+    def explain(self, form):
+        rows = self.rows()
+        arguments = {
+            "trade": lambda: [rows.known(rows.base.trades)],
+            "account": lambda: [rows.account_id()],
+            "holding": lambda: [rows.account_id(), rows.listed()],
+            "broker": lambda: [rows.known(rows.base.brokers)],
+        }[form]()
+        self.do(" ".join(("explain", form, *arguments)))
+
     def change(self, rows):
         """Adds a change of one value by another program, its audit, and the same change back."""
         table, column = self.dice.choice([
@@ -165,11 +178,13 @@ def day(seed, schema=SCHEMA, size=40):
         it.note("The end of the clock.")
         it.moment = MOST_STAMP - it.dice.choice((3 * DAY, 2 * DAY, 5))
         it.batch("E", it.drawn(TRADING, "E", size // 3))
-    it.note("Each view, statements, the tables and the audit.")
+    it.note("Each view, statements, explanations, the tables and the audit.")
     for view in QUERIES:
         it.ask(view)
     it.statement()
     it.statement()
+    for form in it.dice.choices(list(FORMS), k=EXPLANATIONS):
+        it.explain(form)
     it.do("tables")
     it.do("audit")
     it.note("Changes by another program, each with its audit and undone.")

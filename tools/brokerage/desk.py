@@ -5,6 +5,7 @@ from .audit import audit, audit_rows
 from .batches import run_batch
 from .books import Books
 from .database import write
+from .explain import explain
 from .forms import day, ident, parse_query, parse_row
 from .records import SCHEMA, Base
 from .refusals import Refusal, Refused
@@ -78,6 +79,10 @@ class Desk:
         """Returns the statements of all accounts, or of those of a customer."""
         chosen = [] if customer is None else [ident(customer)]
         return statements.statements(self.base, self.books, day(first), day(last), *chosen)
+
+    def explain(self, *texts):
+        """Returns the explanation that words ask for, or Refused."""
+        return explain(self.base, self.books, texts)
 
     def tables(self, schema=SCHEMA):
         """Returns the rows of each table of a schema by name, sorted by key."""

@@ -27,7 +27,6 @@ LEFT_OUT = {
     "jobs": "the program's arguments",
     "test": "tests in Rattle",
     "tests": "tests in Rattle",
-    "explain": "explanations, which the rules do not know",
 }
 # what a mistake in a transcript raises here
 MISTAKES = (sqlite3.Error, OSError, ArithmeticError, AttributeError, LookupError, TypeError,
@@ -165,6 +164,9 @@ class Replay:
 
     def do_statements(self, first, last, customer=None):
         return lines_of(self.desk.statements(first, last, customer))
+
+    def do_explain(self, *texts):
+        return lines_of(self.desk.explain(*texts))
 
     def do_tables(self, *names):
         rows = self.desk.tables()
