@@ -1,0 +1,139 @@
+"""Tables of the page: each is a query in queries/ or a report, which SQL sorts, filters, cuts and exports."""
+
+import csv
+import importlib.machinery
+import importlib.util
+import io
+import pathlib
+
+import reporting
+
+from . import words
+
+FOLDER = pathlib.Path(__file__).resolve().parent / "queries"
+ROWS = 50
+LOADER = importlib.machinery.SourceFileLoader("report", str(reporting.HERE / "report"))
+report = importlib.util.module_from_spec(importlib.util.spec_from_loader("report", LOADER))
+LOADER.exec_module(report)
+QUERIES = {path.stem: report.Report(path) for path in FOLDER.glob("*.sql")}
+REPORTS = report.reports()
+
+# the columns that lead somewhere: the route of each, and the name of its argument
+LINKS = {
+    "TRADE": ("trade", "trade"), "LOT": ("trade", "trade"), "ACCOUNT": ("account", "account"),
+    "CUSTOMER": ("customer", "customer"), "BROKER": ("broker", "broker"),
+    "SYMBOL": ("security", "symbol"), "BATCH": ("batch", "batch"),
+}
+# whole numbers that are no quantities
+IDS = {*LINKS, "CASH_ROW", "N", "K_N", "KEY", "TAX_STATUS", "FIRST_ROW", "LAST_ROW"}
+ACTIONS = {"result": ("Result", "TRADE"), "cancel": ("Cancel", "TRADE"), "feed": ("Tick", "SYMBOL")}
+NOTES = {"NAME", "NOTE", "EXECUTOR", "SETTLES_BY", "CASH_ROW", "FIELDS", "REPLY", "EXCHANGE"}
+
+
+class Cell:
+    """A cell as it is shown: its text, its class, what it leads to, and the value in full."""
+
+    def __init__(self, column, value, row):
+        self.column, self.value, self.title, self.link = column, value, None, None
+        self.text = "" if value is None else str(value)
+        self.kind = "note" if column in NOTES else "text"
+        if column == "ACTION":
+            self.kind = "action"
+        elif column in IDS:
+            self.kind = "id"
+            self.link = LINKS.get(column) if value not in (None, "") else None
+        elif isinstance(value, int) or words.AMOUNT.fullmatch(self.text):
+            self.kind = "money" if "." in self.text else "number"
+            self.text = words.grouped(value)
+        elif words.PERCENT.fullmatch(self.text):
+            self.kind = "number"
+        elif words.TIME.fullmatch(self.text):
+            self.title, self.text, self.kind = f"{value} UTC", words.TIME.fullmatch(value)[1], "time"
+        elif column == "TYPE":
+            self.text, self.title = words.TYPES.get(value, value), value
+        elif column == "STATUS":
+            self.text, self.title = words.STATUSES.get(value, value), value
+        if column == "DIFFERENCE" and value not in (None, "", *report.NONE):
+            self.kind += " wrong"
+        if self.text.startswith("-") and self.kind in ("money", "number"):
+            self.kind += " minus"
+        if column == "SYMBOL" and "ACCOUNT" in row:
+            self.title = "the security"
+
+    @property
+    def action(self):
+        """The label, the kind of row, and the field of its form."""
+        label, field = ACTIONS[self.value]
+        return label, self.value, field
+
+
+class Shown:
+    """A part of a table: its heads, its rows of cells, and where it is in the whole."""
+
+    def __init__(self, key, heads, rows, count, start, order, is_down, filter_text):
+        self.key, self.heads, self.count, self.start = key, heads, count, start
+        self.order, self.is_down, self.filter = order, is_down, filter_text
+        self.rows = [[Cell(head, value, heads) for head, value in zip(heads, row)] for row in rows]
+        self.end = start + len(self.rows)
+        self.has_filter = count > 5 or bool(filter_text)
+
+
+class Table:
+    """A query with its parameters, as the address of a screen asks for it."""
+
+    def __init__(self, conn, sql, given, key, arguments):
+        self.conn, self.sql, self.given, self.key = conn, sql.rstrip().rstrip(";"), dict(given), key
+        start = arguments.get(f"{key}.from", "0")
+        self.start = int(start) if start.isdecimal() and len(start) < 10 else 0
+        self.order = arguments.get(f"{key}.sort", "")
+        self.is_down = arguments.get(f"{key}.down", "") == "1"
+        self.filter = arguments.get(f"{key}.has", "").strip()
+
+    def heads(self):
+        cursor = self.conn.execute(f"SELECT * FROM ({self.sql}) LIMIT 0", self.given)
+        return [column[0] for column in cursor.description]
+
+    def chosen(self, heads):
+        """The SQL of the rows that the filter leaves, in their order."""
+        sql, given = f"SELECT * FROM ({self.sql})", dict(self.given)
+        if self.filter:
+            sql += f" WHERE has_words(:has, {', '.join(quoted(head) for head in heads)})"
+            given["has"] = self.filter.replace(",", "") if self.filter[:1].isdigit() else self.filter
+        if self.order in heads:
+            sql += f" ORDER BY sort_key({quoted(self.order)}){' DESC' if self.is_down else ''}"
+        return sql, given
+
+    def shown(self, most=ROWS):
+        heads = self.heads()
+        sql, given = self.chosen(heads)
+        rows = self.conn.execute(f"{sql} LIMIT {most + 1} OFFSET {self.start}", given).fetchall()
+        count = self.start + len(rows)
+        if len(rows) > most or not rows and self.start:
+            ((count,),) = self.conn.execute(f"SELECT count(*) FROM ({sql})", given)
+        return Shown(self.key, heads, rows[:most], count, self.start, self.order, self.is_down, self.filter)
+
+    def csv(self):
+        """All rows as CSV: amounts and quantities are numbers with a plain minus."""
+        heads = [head for head in self.heads() if head != "ACTION"]
+        sql, given = self.chosen(heads)
+        text = io.StringIO(newline="")
+        writer = csv.writer(text, lineterminator="\n")
+        writer.writerow(heads)
+        columns = ", ".join(quoted(head) for head in heads)
+        for row in self.conn.execute(f"SELECT {columns} FROM ({sql})", given):
+            writer.writerow([words.plain_cell(value) for value in row])
+        return text.getvalue()
+
+
+def quoted(name):
+    return '"' + name.replace('"', '""') + '"'
+
+
+def records(conn, name, **given):
+    """The rows of a query, by the names of its columns."""
+    return conn.execute(QUERIES[name].sql, given).fetchall()
+
+
+def record(conn, name, **given):
+    """The only row of a query, or none."""
+    return conn.execute(QUERIES[name].sql, given).fetchone()
