@@ -29,7 +29,7 @@ def arguments():
     which.add_argument("--copy", metavar="COPY", help="a copy, which is shown and not booked on")
     words.add_argument("--port", type=int, default=8124, metavar="P", help="the port of the page; 0 takes a free one")
     words.add_argument("--door", type=int, default=8123, metavar="P", help="the port of the desk's door")
-    words.add_argument("--door-key", metavar="FILE", help="the file with the secret of the door")
+    words.add_argument("--key", metavar="FILE", help="the file with the secret of the door")
     words.add_argument("--runtime", type=pathlib.Path, metavar="FOLDER", help="snapshots, links and keys")
     words.add_argument("--journals", type=pathlib.Path, metavar="FOLDER", help="the clerks' journals; FILE-page without it")
     words.add_argument("--copies", metavar="FOLDER", help="the nightly copies; BRK_COPIES without it")
@@ -69,7 +69,7 @@ def main():
         snapshots = live.Snapshots(given.file, given.runtime / "snapshots", bool(given.copy))
         with snapshots.used():
             pass
-        clerks = None if given.copy else door.Clerks(journals, given.door, given.door_key, given.file)
+        clerks = None if given.copy else door.Clerks(journals, given.door, given.key, given.file)
         doors = who.Who(given.runtime)
         (given.runtime / "address").write_text(f"http://{given.host}/", encoding="utf-8")
         served = app.create(given, snapshots, clerks, doors)

@@ -14,7 +14,7 @@ from .words import amount_text, day_text
 
 SECONDS = 120
 # the label of a line, its value as the program writes it, and how it follows from the lines above
-Line = collections.namedtuple("Line", "label value how", defaults=("",))
+Line = collections.namedtuple("Line", "label value how shown", defaults=("", ""))
 # a lot that a trade closed or opened
 Lot = collections.namedtuple("Lot", "change opened lot shares price bought sold left")
 FACT = re.compile(r"(.{15}) {1,23}(-?[0-9]+(?:\.[0-9]{2})?|none)(?: (.*))?")
@@ -33,8 +33,7 @@ def lots_of(conn, trade):
             continue
         cents = (row["LOT_CENTS"], row["OWN_CENTS"])
         bought, sold = (shares * price for price in (cents if is_long else cents[::-1]))
-        signed = shares if is_long else -shares
-        yield Lot("closed", row["OPENED"], row["LOT"], signed, row["LOT_CENTS"], bought, sold, row["AFTER"])
+        yield Lot("closed", row["OPENED"], row["LOT"], shares, row["LOT_CENTS"], bought, sold, row["AFTER"])
 
 
 class Trade:
@@ -44,7 +43,7 @@ class Trade:
         self.row, self.lots = row, list(lots_of(conn, row["T_ID"]))
         closed = [lot for lot in self.lots if lot.change == "closed"]
         self.buy, self.sell = (sum(getattr(lot, side) for lot in closed) for side in ("bought", "sold"))
-        self.shares_closed = sum(abs(lot.shares) for lot in closed)
+        self.shares_closed = sum(lot.shares for lot in closed)
         sign = -1 if row["T_TT_ID"] in words.BUYS else 1
         self.value = sign * row["T_QTY"] * row["T_TRADE_PRICE"]
         self.withheld = row["T_TAX"] if row["CA_TAX_ST"] == 1 else 0
@@ -69,7 +68,7 @@ class Trade:
         tax_now = half_up(gain * rates, 100_000) if gain > 0 and row["CA_TAX_ST"] else 0
         commission_now = None if band is None else half_up(band * row["T_QTY"] * row["T_TRADE_PRICE"], 10_000)
         completed = row["T_DTS"] // words.DAY_MS
-        money = amount_text
+        money, days = amount_text, row["SE_CASH_DUE_DATE"] - completed
         return [
             ("Shares", [
                 Line("Price", money(row["T_TRADE_PRICE"]), "of the result"),
@@ -79,11 +78,11 @@ class Trade:
                 Line("SELL", money(self.sell), "what the closed shares were sold for"),
                 Line("Realised gain", money(gain), "SELL less BUY")]),
             ("Tax and commission", [
-                Line("Rates now", str(rates), f"{words.percent(rates, 100_000)}, the customer's taxes together"),
+                Line("Rates now", str(rates), "the customer's taxes together", words.percent(rates, 100_000)),
                 Line("Tax now", money(tax_now), f"the gain at the rates of now; {words.TAX[row['CA_TAX_ST']]}"),
                 Line("Tax recorded", money(row["T_TAX"]), "with the trade"),
-                Line("Band now", "none" if band is None else str(band), "" if band is None else
-                     f"{words.percent(band, 10_000)} for this quantity, tier {row['C_TIER']}, {row['S_EX_ID']}"),
+                Line("Band now", "none" if band is None else str(band), f"for this quantity, tier {row['C_TIER']}, {row['S_EX_ID']}",
+                     "" if band is None else words.percent(band, 10_000)),
                 Line("Commission now", "none" if band is None else money(commission_now), "the value at the band of now")]),
             ("Settlement", [
                 Line("Value", money(self.value), "shares times price; a purchase costs it"),
@@ -91,9 +90,8 @@ class Trade:
                 Line("Commission", money(-row["T_COMM"]), "recorded with the trade"),
                 Line("Tax withheld", money(-self.withheld), words.TAX[row["CA_TAX_ST"]]),
                 Line("Settlement", money(self.settlement), "the sum of the four lines above"),
-                Line("Days to settle", str(row["SE_CASH_DUE_DATE"] - completed),
-                     f"T+{row['SE_CASH_DUE_DATE'] - completed}: completed on {day_text(completed)}, due on "
-                     f"{day_text(row['SE_CASH_DUE_DATE'])}" + self.rule())]),
+                Line("Days to settle", str(days), f"completed on {day_text(completed)}, due on {day_text(row['SE_CASH_DUE_DATE'])}"
+                     + self.rule(), f"T+{days}")]),
             ("Balance", [
                 Line("Opening", money(row["CA_OPEN"]), "of the account"),
                 Line("Cash before", money(self.cash_before), f"the {self.rows_before} cash rows before"),

@@ -4,7 +4,7 @@ from markupsafe import Markup, escape
 
 from .words import amount_text, day_text, grouped
 
-WIDTH, HEIGHT, LEFT, RIGHT, TOP, BOTTOM = 720, 200, 110, 12, 12, 28
+WIDTH, HEIGHT, LEFT, RIGHT, TOP, BOTTOM = 520, 180, 124, 10, 12, 28
 
 
 def element(name, content="", **attributes):
@@ -59,19 +59,14 @@ def over_time(points, name):
 def ladder(rungs, today):
     """Bars of what is received and paid on each due day: DAY, cents in, cents out."""
     most = max((abs(cents) for _, *both in rungs for cents in both), default=0) or 1
-    middle, half, parts = 400, 210, []
+    middle, half, parts = 290, 85, []
     for place, (day, received, paid) in enumerate(rungs):
-        y = 6 + 26 * place
-        name = {0: "today", 1: "tomorrow"}.get(day - today, "")
-        parts.append(element("text", f"{day_text(day)} {name}", x=0, y=y + 15, class_="now" if day == today else "day"))
-        for cents, sign, kind in ((paid, -1, "paid"), (received, 1, "received")):
-            length = round(abs(cents) * half / most, 1) if cents else 0
+        y, name = 6 + 26 * place, "now" if day == today else "day"
+        parts.append(element("text", day_text(day)[5:], x=0, y=y + 15, class_=name))
+        for cents, sign, kind, end in ((paid, -1, "paid", middle - half - 6), (received, 1, "received", WIDTH)):
+            length = round(abs(cents) * half / most, 1)
             parts.append(element("rect", x=middle - (length if sign < 0 else 0), y=y, width=length, height=20, class_=kind,
                                  data_day=day_text(day), data_cents=cents))
-            inside = length > half * 0.6
-            if cents:
-                at = middle + sign * (6 if inside else length + 6)
-                parts.append(element("text", grouped(amount_text(cents)), x=at, y=y + 15, class_="in" if inside else "",
-                                     text_anchor="end" if sign < 0 else "start"))
+            parts.append(element("text", grouped(amount_text(cents)), x=end, y=y + 15, text_anchor="end", class_=name))
     parts.append(element("line", class_="axis", x1=middle, x2=middle, y1=0, y2=26 * len(rungs) + 6))
     return svg("What is paid (left) and received (right) on each due day", parts, 26 * len(rungs) + 8)

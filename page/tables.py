@@ -27,7 +27,7 @@ LINKS = {
 # whole numbers that are no quantities
 IDS = {*LINKS, "CASH_ROW", "N", "K_N", "KEY", "TAX_STATUS", "FIRST_ROW", "LAST_ROW"}
 ACTIONS = {"result": ("Result", "TRADE"), "cancel": ("Cancel", "TRADE"), "feed": ("Tick", "SYMBOL")}
-NOTES = {"NAME", "NOTE", "EXECUTOR", "SETTLES_BY", "CASH_ROW", "FIELDS", "REPLY", "EXCHANGE"}
+NOTES = {"NAME", "NOTE", "EXECUTOR", "SETTLES_BY", "FIELDS", "REPLY", "EXCHANGE"}
 
 
 class Cell:
