@@ -2,6 +2,7 @@
 
 import contextlib
 import os
+import pathlib
 import sqlite3
 import time
 
@@ -9,6 +10,7 @@ import desk_client
 import reporting
 from desk_settings import whole_setting
 from flask import Flask, Response, abort, g, render_template, request, url_for
+from markupsafe import Markup
 from werkzeug.exceptions import HTTPException
 
 from . import derive, rows, screens, tables, words
@@ -17,29 +19,26 @@ from .live import NoSnapshot
 HEADERS = {
     "Content-Security-Policy": (
         "default-src 'none'; script-src 'self'; style-src 'self'; img-src 'self'; connect-src 'self';"
-        " base-uri 'none'; form-action 'self'; frame-ancestors 'none'"
-    ),
-    "X-Content-Type-Options": "nosniff",
-    "X-Frame-Options": "DENY",
-    "Referrer-Policy": "no-referrer",
-    "Cross-Origin-Resource-Policy": "same-origin",
-    "Cross-Origin-Opener-Policy": "same-origin",
+        " base-uri 'none'; form-action 'self'; frame-ancestors 'none'"),
+    "X-Content-Type-Options": "nosniff", "X-Frame-Options": "DENY", "Referrer-Policy": "no-referrer",
+    "Cross-Origin-Resource-Policy": "same-origin", "Cross-Origin-Opener-Policy": "same-origin",
     "Cache-Control": "no-store",
 }
-OPEN_ROUTES = ("enter", "static")
 KEY = "X-Page-Key"
-# the fields of a form that are no fields of a row
-NAVIGATION = ("step",)
+NOTHING_BOOKED = "This page shows a copy: nothing can be booked on it."
 
 
 def create(given, snapshots, clerks, who):
     """The program of the page over a desk's snapshots; without clerks it books nothing."""
     app = Flask("page", root_path=os.path.dirname(__file__))
     app.jinja_env.trim_blocks = app.jinja_env.lstrip_blocks = True
-    app.jinja_env.filters.update(grouped=words.grouped, money=lambda cents: words.grouped(words.amount_text(cents)),
-                                 day=words.day_text, percent=words.percent, sentence=rows.sentence, words=desk_client.words_of)
-    app.jinja_env.globals.update(TYPES=words.TYPES, STATUSES=words.STATUSES, TAX=words.TAX, REPORTS=tables.REPORTS,
-                                 KINDS=rows.KINDS, ACTIONS=rows.ACTIONS, given=given, head_of=words.head, url_with=url_with)
+    app.jinja_env.filters.update(
+        grouped=words.grouped, shown=shown, day=words.day_text, sentence=rows.sentence,
+        words=desk_client.words_of, amount=words.amount_text, money=lambda cents: words.grouped(words.amount_text(cents)))
+    app.jinja_env.globals.update(
+        TYPES=words.TYPES, STATUSES=words.STATUSES, TAX=words.TAX, ENDS=words.ENDS,
+        REPORTS=tables.REPORTS, KINDS=rows.KINDS, ACTIONS=rows.ACTIONS, given=given,
+        file=pathlib.Path(given.file).name, head_of=words.head, url_with=url_with)
     add_guard(app, given, clerks, who)
     add_screens(app, given, snapshots)
     add_rows(app, given, snapshots)
@@ -47,189 +46,135 @@ def create(given, snapshots, clerks, who):
     return app
 
 
+def shown(value):
+    """A number or an amount with commas, marked if it is below zero; any other value as it is."""
+    if not isinstance(value, int) and not words.AMOUNT.fullmatch(str(value)):
+        return value
+    is_below = str(value).startswith("-")
+    return Markup('<span class="amount{}">{}</span>').format(
+        " minus" if is_below else "", words.grouped(value))
+
+
 def url_with(**changes):
     """The address of this screen with other arguments; None takes one away."""
-    arguments = {**request.args, **changes}
-    return url_for(request.endpoint, **request.view_args, **{key: value for key, value in arguments.items() if value not in (None, "")})
+    chosen = {key: value for key, value in {**request.args, **changes}.items() if value not in (None, "")}
+    return url_for(request.endpoint, **request.view_args, **chosen)
+
+
+def refusal(status, text):
+    return Response(f"{text}\n", status, mimetype="text/plain")
 
 
 def add_guard(app, given, clerks, who):
     @app.before_request
     def guard():
-        """Nobody but a clerk's own browser reads or books: each request has a key, which no other site can read. The
-        first request for an address has none, and gets a frame without data, whose script asks again with the key."""
-        g.clerk = None
+        """Nobody but a clerk's own browser reads or books: each request has a key, which no other
+        site can read. The first request for an address has none, and gets a frame without data,
+        whose script asks again with the key."""
+        g.clerk, key, is_get = None, request.headers.get(KEY), request.method == "GET"
         site, origin = request.headers.get("Sec-Fetch-Site", "none"), request.headers.get("Origin")
         if request.host != given.host:
-            return Response(f"This page is http://{given.host}/\n", 403, mimetype="text/plain")
-        if origin not in (None, f"http://{given.host}") or request.method != "GET" and site not in ("none", "same-origin"):
-            return Response("Another site sent this request.\n", 403, mimetype="text/plain")
-        if request.endpoint in OPEN_ROUTES:
+            return refusal(403, f"This page is http://{given.host}/")
+        is_ours = site in ("none", "same-origin") and origin in (None, f"http://{given.host}")
+        if not is_ours and (key or not is_get):
+            return refusal(403, "Another site sent this request.")
+        if request.endpoint in ("enter", "static"):
             return None
-        key = request.headers.get(KEY)
-        if key is None and request.method == "GET":
+        if key is None and is_get:
             return render_template("frame.html")
-        initials = key and site in ("none", "same-origin") and who.clerk(key)
-        if not initials:
-            return Response("no key\n", 401, mimetype="text/plain")
-        g.clerk = clerks.named(initials) if clerks else None
-        g.initials = initials
+        g.initials = who.clerk(key or "")
+        if not g.initials:
+            return refusal(401, "no key")
+        g.clerk = clerks.named(g.initials) if clerks else None
         return None
 
     @app.after_request
     def sealed(response):
         response.headers.update(HEADERS)
-        if request.endpoint == "static" and response.status_code == 200:
+        if request.endpoint == "static":
             response.headers["Cache-Control"] = "no-cache"
         return response
 
     @app.route("/enter", methods=["GET", "POST"])
     def enter():
         """A link is opened here; its secret is behind #, which no browser sends."""
-        key = who.enter(request.form.get("secret", "")) if request.method == "POST" else None
         if request.method == "GET":
             return render_template("frame.html")
-        return {"key": key} if key else ({"error": "This link was used before, or its day has ended: ask for a new one."}, 403)
+        key = who.enter(request.form.get("secret", ""))
+        why = "This link was used before, or its day has ended: ask for a new one."
+        return {"key": key} if key else ({"error": why}, 403)
 
 
 def add_screens(app, given, snapshots):
-    def screen(template, read, *arguments, **more):
-        """A screen over one snapshot, or the CSV of one of its tables."""
-        with opened(given, snapshots) as desk:
-            told = read(desk, *arguments)
-            if "csv" in request.args:
-                made = desk.tables.get(request.args["csv"]) or abort(404, "There is no such table on this screen.")
-                name = f"{request.path.strip('/').replace('/', '-') or 'today'}-{request.args['csv']}.csv"
-                return Response(made.csv(), mimetype="text/csv", headers={"Content-Disposition": f'attachment; filename="{name}"'})
-            return page(template, desk, **told, **more)
+    def added(rule, read):
+        def screen(**names):
+            """A screen over one snapshot, or the CSV of one of its tables."""
+            with opened(given, snapshots) as desk:
+                told = read(desk, **names)
+                if "csv" in request.args:
+                    found = desk.tables.get(request.args["csv"])
+                    made = found or abort(404, "There is no such table on this screen.")
+                    return Response(made.csv(), mimetype="text/csv")
+                if endpoint == "today":
+                    folder = given.copies or os.environ.get("BRK_COPIES")
+                    stem = pathlib.Path(given.file).stem
+                    told["copy"] = screens.newest_copy(folder, stem) if folder else None
+                return page(told.pop("template", f"{endpoint}.html"), desk, **told)
 
-    @app.route("/")
-    def today():
-        return screen("today.html", screens.today, screens.settings_of(given))
+        endpoint = rule.split("/")[1] or "today"
+        endpoint = read.__name__ if read.__name__ == "holding" else endpoint
+        app.add_url_rule(rule, endpoint, screen)
 
-    @app.route("/account/<int:account>")
-    def account(account):
-        return screen("account.html", screens.account, account)
+    for rule, read in screens.SCREENS.items():
+        added(rule, read)
 
-    @app.route("/account/<int:account>/<symbol>")
-    def holding(account, symbol):
-        return screen("holding.html", screens.holding, account, symbol)
-
-    @app.route("/customer/<int:customer>")
-    def customer(customer):
-        return screen("customer.html", lambda desk: {
-            "head": desk.one("customer", f"customer {customer}", customer=customer),
-            "accounts": desk.table("accounts", "customer_accounts", customer=customer),
-            "taxes": desk.all("customer_taxes", customer=customer)})
-
-    @app.route("/security/<symbol>")
-    def security(symbol):
-        return screen("security.html", lambda desk: {
-            "head": desk.one("security", f"security {symbol}", symbol=symbol),
-            "holders": desk.table("holders", symbol=symbol),
-            "pending": desk.table("pending", symbol=symbol, now=desk.now),
-            "orders": desk.table("orders", symbol=symbol, account=None, status=None, first=0, last=reporting.LAST_DAY)})
-
-    @app.route("/market")
-    def market():
-        return screen("list.html", lambda desk: {"title": "Market", "shown": [("Securities", desk.table("securities"))]})
-
-    @app.route("/orders")
-    def orders():
-        status = request.args.get("status") or None
-        return screen("orders.html", lambda desk: {"status": status, "orders": desk.table(
-            "orders", symbol=None, account=None, status=status, first=0, last=reporting.LAST_DAY)})
-
-    @app.route("/broker/<int:broker>")
-    def broker(broker):
-        return screen("broker.html", lambda desk: {
-            "head": desk.one("broker", f"broker {broker}", broker=broker),
-            "trades": desk.table("trades", "broker_trades", broker=broker)})
-
-    @app.route("/brokers")
-    def brokers():
-        return screen("brokers.html", lambda desk: {
-            "brokers": desk.table("brokers"), "volumes": desk.table("volumes"), "total": tables.record(desk.conn, "volume_total")})
-
-    @app.route("/trade/<int:trade>")
-    def trade(trade):
-        return screen("trade.html", screens.trade, trade)
-
-    @app.route("/batch/<batch>")
-    def batch(batch):
-        return screen("list.html", lambda desk: {"title": f"Batch {batch}", "shown": [("Accepted rows", desk.table("batch", batch=batch))]})
-
-    @app.route("/find")
-    def find():
-        text = request.args.get("q", "").strip()[:200]
-        number = int(text) if text.isdecimal() and len(text) < 14 else None
-        return screen("find.html", lambda desk: {"text": text, "found": desk.all("find", text=text, number=number) if text else []})
-
-    @app.route("/reports")
-    def reports():
-        return screen("reports.html", lambda desk: {})
-
-    @app.route("/report/<name>")
-    def report(name):
-        if name not in tables.REPORTS:
-            abort(404, f"There is no report {name}: the list of reports has all.")
-        return screen("report.html", screens.report, name, request.args)
-
-    @app.route("/statement/<int:account>")
-    def statement(account):
-        month = request.args.get("month") or words.month_of(int(time.time()) // 86_400)
-        return screen("statement.html", screens.statement, account, month)
-
-    @app.route("/confirmation/<int:trade>")
-    def confirmation(trade):
-        return screen("confirmation.html", screens.trade, trade)
-
-    @app.route("/explained/<form>/<path:arguments>")
-    def explained(form, arguments):
-        """The program's own text over the snapshot of a screen, and where that screen differs from it."""
-        parts = [int(part) if part.isdecimal() else part for part in arguments.split("/")]
+    @app.route("/explained/<form>/<path:names>")
+    def explained(form, names):
+        """The program's own text over the snapshot of a screen, and where the screen differs."""
+        parts = [int(part) if part.isdecimal() else part for part in names.split("/")]
         with opened(given, snapshots, request.args.get("snapshot")) as desk:
-            shown = screens.facts(desk, form, parts)
+            facts = screens.facts(desk, form, parts)
             text, why = derive.explained(desk.snapshot.for_program(), form, *parts)
-            differing = list(derive.differences(shown, text)) if text else []
-            return render_template("explained.html", text=text, why=why, differing=differing, count=len(shown),
-                                   stamp=reporting.time_text(desk.snapshot.stamp))
+            differing = list(derive.differences(facts, text)) if text else []
+            return render_template("explained.html", text=text, why=why, differing=differing,
+                                   count=len(facts), stamp=reporting.time_text(desk.snapshot.stamp))
 
 
 @contextlib.contextmanager
 def opened(given, snapshots, name=None):
     """The desk over a snapshot that has this clerk's last row."""
-    least = g.clerk.stamp if g.clerk else 0
-    with snapshots.used(least, name) as snapshot:
-        now = int(time.time() * 1000)
-        if given.copy or given.desk_clock:
-            now = snapshot.stamp
+    with snapshots.used(g.clerk.stamp if g.clerk else 0, name) as snapshot:
+        is_fixed = given.copy or given.desk_clock
+        now = snapshot.stamp if is_fixed else int(time.time() * 1000)
         with contextlib.closing(snapshot.connect()) as conn:
             day = max(now, snapshot.stamp) // words.DAY_MS
             yield screens.Desk(conn, snapshot, day, now, request.args)
 
 
 def page(template, desk=None, status=200, **told):
-    """A screen with its head: the file, the stamp, the age, the clerk, and the rows without a reply."""
-    told.update(desk=desk, waiting=g.clerk.waiting() if g.clerk else [], initials=g.get("initials"))
+    """A screen with its head: the stamp, the age, the clerk, and the rows without a reply."""
+    told.update(desk=desk, waiting=g.clerk.waiting() if g.get("clerk") else [],
+                initials=g.get("initials"))
     if desk:
-        told.update(stamp=reporting.time_text(desk.snapshot.stamp), read=desk.snapshot.read, read_text=words.moment(desk.snapshot.read), machine=words.moment(time.time()),
-                    apart=words.ago(int(time.time() * 1000) - desk.snapshot.stamp),
-                    is_ahead=desk.snapshot.stamp > time.time() * 1000 + 60_000)
+        now, stamp = time.time(), desk.snapshot.stamp
+        told.update(stamp=reporting.time_text(stamp), read=desk.snapshot.read,
+                    read_text=words.moment(desk.snapshot.read), machine=words.moment(now),
+                    apart=words.ago(int(now * 1000) - stamp), is_ahead=stamp > now * 1000 + 60_000)
     return render_template(template, **told), status
 
 
 def add_rows(app, given, snapshots):
-    def first_step(kind, wrong=None, row=None):
+    def first_step(kind, name="", wrong=None):
+        values = {key: value for key, value in request.args.items() if key != "step"}
         with opened(given, snapshots) as desk:
-            values = {key: value for key, value in request.args.items() if key not in NAVIGATION}
-            told = {"persons": [], "head": None, "trade": None, "security": None}
-            if values.get("ACCOUNT", "").isdecimal():
-                told["head"] = tables.record(desk.conn, "account", account=int(values["ACCOUNT"]))
-                told["persons"] = desk.all("persons", account=int(values["ACCOUNT"]))
-            if values.get("TRADE", "").isdecimal():
-                told["trade"] = tables.record(desk.conn, "trade", trade=int(values["TRADE"]))
-            return page("row.html", desk, kind=kind, values=values, wrong=wrong, fixed=rows.FIXED.get(kind), **told)
+            def record(name, field):
+                text = values.get(field, "")
+                return tables.record(desk.conn, name, **{name: int(text)}) if text.isdecimal() else None
+
+            head = record("account", "ACCOUNT")
+            people = desk.all("persons", account=head["CA_ID"]) if head else []
+            return page("row.html", desk, kind=kind, values=values, wrong_name=name, wrong=wrong, head=head,
+                        fixed=rows.FIXED.get(kind), trade=record("trade", "TRADE"), people=people)
 
     @app.route("/row/<kind>")
     def row(kind):
@@ -237,34 +182,38 @@ def add_rows(app, given, snapshots):
         if kind not in rows.ACTIONS:
             abort(404, f"The page books no row {kind}.")
         if not g.clerk:
-            abort(403, "This page shows a copy: nothing can be booked on it.")
+            abort(403, NOTHING_BOOKED)
         if request.args.get("step") != "2":
             return first_step(kind)
         values = dict(request.args)
-        for name, text in zip(("FIRST", "LAST", "TAXID"), values.pop("PERSON", "").split("\t")):
-            values[name] = text
+        values.update(zip(("FIRST", "LAST", "TAXID"), values.pop("PERSON", "").split("\t")))
         try:
             fields = rows.fields_of(kind, values)
             with opened(given, snapshots) as desk:
-                effect = rows.effect_of(desk.conn, fields, g.clerk, whole_setting("BRK_PRICE_PERCENT", 10))
+                percent = whole_setting("BRK_PRICE_PERCENT", 10)
+                effect = rows.effect_of(desk.conn, fields, g.clerk, percent)
                 same = g.clerk.same(fields)
                 if same:
-                    effect.warn(f"The same row was sent within the last ten minutes, in the batch {same[-1]}.", "once more")
-                return page("step.html", desk, kind=kind, fields=fields, effect=effect, batch=g.clerk.new_batch())
+                    effect.warn("The same row was sent within the last ten minutes, in the batch "
+                                f"{same[-1]}.", "once more")
+                return page("step.html", desk, kind=kind, fields=fields, effect=effect,
+                            batch=g.clerk.new_batch())
         except rows.Wrong as error:
-            return first_step(kind, error.args)
+            return first_step(kind, *error.args)
         except desk_client.Refused as error:
-            return first_step(kind, ("", f"The desk refuses this: {desk_client.words_of(error.fields)}"))
+            why = desk_client.words_of(error.fields)
+            return first_step(kind, wrong=f"The desk refuses this: {why}")
         except desk_client.ClientError as error:
-            return first_step(kind, ("", f"{error} No estimate, so nothing to book yet: try again."))
+            return first_step(kind, wrong=f"{error} No estimate, so nothing to book yet: try again.")
 
     @app.post("/book")
     def book():
-        """The second step: the only request that books."""
+        """The second step: the only request that books a row."""
         batch, fields = request.form.get("batch", ""), request.form.getlist("field")
         if not g.clerk:
-            abort(403, "This page shows a copy: nothing can be booked on it.")
-        if not batch.startswith(f"PAGE-{g.clerk.initials}-") or fields[:1] == [] or fields[0] not in rows.ACTIONS:
+            abort(403, NOTHING_BOOKED)
+        is_ours = batch.startswith(f"PAGE-{g.clerk.initials}-")
+        if not is_ours or not fields or fields[0] not in rows.ACTIONS:
             abort(400, "This is no form of yours: begin anew.")
         return sent(fields, batch, lambda: g.clerk.book(batch, fields))
 
@@ -274,49 +223,45 @@ def add_rows(app, given, snapshots):
         batch = request.form.get("batch", "")
         if not g.clerk or batch not in g.clerk.journal.batches:
             abort(404, "Your journal has no such row.")
-        return sent(g.clerk.journal.batches[batch][1], batch, lambda: g.clerk.again(batch)[1])
+        return sent(g.clerk.journal.batches[batch][1], batch, lambda: g.clerk.again(batch))
 
     def sent(fields, batch, send):
+        told = {"fields": fields, "batch": batch, "reply": None, "error": None}
         try:
-            reply, error = send(), None
-        except desk_client.NoReply as failed:
-            reply, error = None, str(failed)
-        except (desk_client.ClientError, OSError, TypeError, ValueError) as failed:
-            reply, error = None, f"{failed}."
-        told, link = "", None
-        if reply and reply.accepted:
-            told, link = rows.told(fields, reply), rows.link_of(fields, reply)
+            reply = told["reply"] = send()
+            if reply.accepted:
+                told.update(told=rows.told(fields, reply), link=rows.link_of(fields, reply))
+        except (desk_client.ClientError, OSError, TypeError, ValueError) as error:
+            told["error"] = str(error)
         try:
             with opened(given, snapshots) as desk:
-                return page("sent.html", desk, fields=fields, batch=batch, reply=reply, error=error, told=told, link=link)
+                return page("sent.html", desk, **told)
         except (NoSnapshot, sqlite3.Error):
             # the reply is what matters here
-            return page("sent.html", None, fields=fields, batch=batch, reply=reply, error=error, told=told, link=link)
+            return page("sent.html", **told)
 
 
 def add_errors(app):
-    @app.errorhandler(NoSnapshot)
-    def no_snapshot(error):
-        return page("error.html", None, 503, title="No snapshot", why=str(error),
-                    todo="This screen tries again by itself. Rows that you sent are safe: a red line has those without a reply.")
+    def handled(status, title, todo, *kinds):
+        def told(error):
+            code = getattr(error, "code", None) or status
+            why = getattr(error, "description", None) or str(error)
+            if "URL was not found" in why:
+                why = "This page has no such address."
+            if code == 500:
+                app.logger.exception("a fault of the page")
+                why = f"{type(error).__name__}: {why}"
+            return page("error.html", status=code, why=why, todo=todo,
+                        title=title or getattr(error, "name", "Not so"))
 
-    @app.errorhandler(reporting.Refused)
-    @app.errorhandler(ValueError)
-    def wrong_argument(error):
-        return page("error.html", None, 400, title="Not so", why=str(error), todo="Go back and correct it.")
+        for kind in kinds:
+            app.register_error_handler(kind, told)
 
-    @app.errorhandler(desk_client.ClientError)
-    def journal(error):
-        return page("error.html", None, 503, title="No journal", why=str(error), todo="Another program has your journal: end it, then load this anew.")
-
-    @app.errorhandler(HTTPException)
-    def http(error):
-        found = error.description if error.code != 404 or "werkzeug" not in type(error).__module__ else error.description
-        why = "This page has no such address." if error.code == 404 and "URL was not found" in (found or "") else found
-        return page("error.html", None, error.code or 500, title=error.name, why=why, todo="Begin with Today, or find what you look for above.")
-
-    @app.errorhandler(Exception)
-    def fault(error):
-        app.logger.exception("a fault of the page")
-        return page("error.html", None, 500, title="A fault of the page", why=f"{type(error).__name__}: {error}",
-                    todo="Nothing was booked by this. Its program printed more: keep that for whoever looks after the page.")
+    handled(503, "No snapshot", "This screen tries again by itself. Rows that you sent are safe: a red "
+            "line has those without a reply.", NoSnapshot)
+    handled(400, "Not so", "Go back and correct it.", reporting.Refused, ValueError)
+    handled(503, "No journal", "If another program has your journal, end that program. Then load this "
+            "anew.", desk_client.ClientError)
+    handled(500, None, "Begin with Today, or find what you look for above.", HTTPException)
+    handled(500, "A fault of the page", "Nothing was booked by this. Its program printed more: keep that "
+            "for whoever looks after the page.", Exception)

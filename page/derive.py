@@ -147,8 +147,13 @@ def holding_facts(conn, account, symbol):
 
 
 def broker_facts(conn, broker):
-    head = tables.record(conn, "broker", broker=broker)
-    return {"Commissions": head["COMMISSIONS"], "Trades": str(head["B_NUM_TRADES"])}
+    head, total = tables.record(conn, "broker", broker=broker), 0
+    found = {"Commissions": head["COMMISSIONS"], "Trades": str(head["B_NUM_TRADES"])}
+    for place, row in enumerate(reversed(tables.records(conn, "broker_trades", broker=broker))):
+        total += words.sort_key(row["COMMISSION"])
+        found[f"Trade {place}"] = " ".join(
+            [row["COMPLETED"], str(row["TRADE"]), str(row["ACCOUNT"]), row["COMMISSION"], amount_text(total)])
+    return found
 
 
 # how many fields of a row of the program's text are compared, by its first word
@@ -165,8 +170,8 @@ def told_facts(text):
             place = counts["lot" if is_trade else word]
             counts["lot" if is_trade else word] += 1
             found[f"{word} {place}"] = " ".join(fields[:COMPARED[word]])
-        elif FACT.match(line) and not line[15:16].strip():
-            found.setdefault(FACT.match(line)[1].strip(), FACT.match(line)[2])
+        elif FACT.fullmatch(line):
+            found.setdefault(FACT.fullmatch(line)[1].strip(), FACT.fullmatch(line)[2])
         elif line.startswith("Due on"):
             found["Due on"] = line.split()[-1]
     return found

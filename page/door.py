@@ -95,7 +95,7 @@ class Clerk:
         with self.under_way(batch):
             if batch in self.journal.open:
                 self.client.deliver(batch, [1], is_new=False)
-            return self.journal.batches[batch][1], self.journal.replies[batch][1]
+            return self.journal.replies[batch][1]
 
     def estimate(self, fields):
         """The estimate of an order by the desk, as it is now. Raises Refused."""

@@ -1,4 +1,4 @@
-"""What each screen shows, read from a snapshot."""
+"""What each screen shows, read from a snapshot; SCREENS has the address of each."""
 
 import os
 import pathlib
@@ -6,172 +6,262 @@ import re
 import time
 
 import reporting
-from flask import abort
+from flask import abort, url_for
 
 from . import derive, plots, rows, tables, words
 from .tables import record, records
-from .words import DAY_MS, day_text, sort_key
+from .words import DAY_MS, amount_text, day_text
 
 LADDER_BEFORE, LADDER_AFTER, PLOT_DAYS = 3, 4, 30
+# the nightly copy is too old after so many hours
 COPY_HOURS = 26
+ALL = {"first": 0, "last": reporting.LAST_DAY}
+NAMES = {"account": "account", "customer": "customer", "broker": "broker", "trade": "trade",
+         "security": "symbol", "batch": "batch"}
 
 
 class Desk:
-    """A snapshot as a screen reads it: its tables are sorted and filtered by the arguments of the address."""
+    """A snapshot as a screen reads it; the address sorts, filters and cuts its tables."""
 
     def __init__(self, conn, snapshot, today, now, arguments):
         self.conn, self.snapshot, self.today, self.now = conn, snapshot, today, now
         self.arguments, self.tables = arguments, {}
 
     def table(self, key, name=None, sql=None, most=tables.ROWS, **given):
-        """A part of a table; its CSV is at the same address with csv=KEY."""
-        made = tables.Table(self.conn, sql or tables.QUERIES[name or key].sql, given, key, self.arguments)
-        self.tables[key] = made
-        return made.shown(most)
+        """A part of a table; all of it is CSV at the same address with csv=KEY."""
+        sql = sql or tables.QUERIES[name or key].sql
+        self.tables[key] = tables.Table(self.conn, sql, given, key, self.arguments)
+        return self.tables[key].shown(most)
+
+    def orders(self, key="orders", account=None, symbol=None, status=None, sql=None, **days):
+        given = {"account": account, "symbol": symbol, "status": status, **(days or ALL)}
+        return self.table(key, "orders", sql, **given)
 
     def all(self, name, **given):
         return records(self.conn, name, **given)
 
-    def one(self, name, what, **given):
-        """The record of something that is named in the address: 404 if it is not there."""
-        found = record(self.conn, name, **given)
+    def one(self, name, key):
+        """The record of something that the address names: 404 if it is not there."""
+        found = record(self.conn, name, **{NAMES[name]: key})
         if found is None:
-            abort(404, f"This desk has no {what}, as of {reporting.time_text(self.snapshot.stamp)}. "
-                       "Look it up in the field above: names, ids, symbols, batches.")
+            abort(404, f"This desk has no {name} {key}, as of its stamp "
+                       f"{reporting.time_text(self.snapshot.stamp)}. Look it up in the field above.")
         return found
 
     def period(self):
-        """The first and the last day of the month that the address asks for, or of all days."""
-        try:
-            return words.days_of_month(self.arguments.get("month", ""))
-        except ValueError:
-            return 0, reporting.LAST_DAY
+        """The first and the last day of the month of the address, or of all days."""
+        month = self.arguments.get("month")
+        return dict(zip(ALL, words.days_of_month(month))) if month else ALL
 
 
-def cents_of(text):
-    return int(sort_key(text))
-
-
-def today(desk, copies):
-    """The first screen."""
-    day = desk.today
-    working = words.last_working_day(day)
+def today(desk):
+    day, working = desk.today, words.last_working_day(desk.today)
     due = {row["DAY"]: row for row in desk.all("due", first=working, last=day + LADDER_AFTER)}
-    rungs = [(each, *(cents_of(due[each][side]) if each in due else 0 for side in ("RECEIVED", "PAID")))
-             for each in range(min(working + 1, day - LADDER_BEFORE), day + LADDER_AFTER) if each in due or each >= day]
+    first = min(working + 1, day - LADDER_BEFORE)
+    rungs = [(each, *(words.cents_of(due[each][side]) if each in due else 0
+                      for side in ("RECEIVED", "PAID")))
+             for each in range(first, day + LADDER_AFTER) if each in due or each >= day]
     days = desk.all("day_cash", first=day - PLOT_DAYS, last=day)
     total = record(desk.conn, "all_cash")
-    balance, line = cents_of(total["BALANCE"]), []
+    balance, line = words.cents_of(total["BALANCE"]), []
     for row in reversed(days):
-        line.append((row["DAY"], balance))
-        balance -= cents_of(row["NET"])
+        line.insert(0, (row["DAY"], balance))
+        balance -= words.cents_of(row["NET"])
     if line:
-        line.append((line[-1][0] - 1, balance))
-    month = words.days_of_month(words.month_of(day))
+        line.insert(0, (line[0][0] - 1, balance))
+    month = words.month_of(day)
     return {
-        "submitted": desk.table("submitted", now=desk.now), "pending": desk.table("pending", now=desk.now, symbol=None),
-        "due": due, "overdue": [due[each] for each in range(working + 1, day) if each in due], "day": day,
-        "ladder": plots.ladder(rungs, day), "cash": next((row for row in days if row["DAY"] == day), None),
-        "total": total, "plot": plots.over_time(line[::-1], "Cash of all accounts"),
+        "submitted": desk.table("submitted", now=desk.now),
+        "pending": desk.table("pending", now=desk.now, symbol=None),
         "below": desk.table("below", "below_zero", most=10),
-        "commissions": desk.table("commissions", "month_commissions", first=month[0], last=month[1]),
-        "month": words.month_of(day), "copy": newest_copy(*copies) if copies else None,
+        "due": due, "overdue": [due[each] for each in range(working + 1, day) if each in due],
+        "ladder": plots.ladder(rungs, day), "plot": plots.over_time(line, "Cash of all accounts"),
+        "cash": next((row for row in days if row["DAY"] == day), None), "total": total,
+        "commissions": desk.table("commissions", "month_commissions",
+                                  **dict(zip(ALL, words.days_of_month(month)))),
+        "day": day, "month": month,
     }
 
 
 def newest_copy(folder, name):
-    """The newest nightly copy: its name, its age in hours, and whether it is too old; or why there is none."""
+    """The newest nightly copy: its name, its age, and whether it is too old; or why there is none."""
+    form = re.compile(re.escape(name) + r"-\d{4}-\d\d-\d\d\.db")
     try:
-        found = [path for path in pathlib.Path(folder).iterdir()
-                 if re.fullmatch(re.escape(name) + r"-\d{4}-\d\d-\d\d\.db", path.name)]
-        newest = max(found, key=lambda path: path.stat().st_mtime)
+        found = [path for path in pathlib.Path(folder).iterdir() if form.fullmatch(path.name)]
+        newest = max(found, key=os.path.getmtime)
     except (OSError, ValueError) as error:
-        return {"name": None, "why": getattr(error, "strerror", None) or "there is none"}
-    made = newest.stat().st_mtime
-    hours = (time.time() - made) / 3600
-    return {"name": newest.name, "made": words.moment(made), "age": words.age(int(hours * 3_600_000)), "is_old": hours > COPY_HOURS}
+        return {"why": getattr(error, "strerror", None) or "the folder has none"}
+    hours = (time.time() - newest.stat().st_mtime) / 3600
+    return {"name": newest.name, "age": words.age(int(hours * 3_600_000)),
+            "is_old": hours > COPY_HOURS}
 
 
-def account(desk, number):
-    head = desk.one("account", f"account {number}", account=number)
-    first, last = desk.period()
-    points = [(row["DAY"], row["CENTS"]) for row in desk.all("balances", account=number)]
-    given = {"account": number, "first": first, "last": last}
+def account(desk, account):
+    head, days = desk.one("account", account), desk.period()
+    points = [(row["DAY"], row["CENTS"]) for row in desk.all("balances", account=account)]
+    points = points and [(points[0][0] - 1, head["CA_OPEN"]), *points]
+    waiting = f"SELECT * FROM ({tables.QUERIES['orders'].sql}) WHERE STATUS IN ('SBMT', 'PNDG')"
     return {
-        "head": head, "persons": desk.all("persons", account=number), "positions": desk.table("positions", account=number),
-        "open": desk.table("open", sql=OPEN.format(tables.QUERIES["orders"].sql.rstrip().rstrip(";")),
-                           symbol=None, status=None, account=number, first=0, last=reporting.LAST_DAY),
-        "cash": desk.table("cash", **given), "orders": desk.table("orders", symbol=None, status=None, **given),
-        "months": [row["MONTH"] for row in desk.all("months", account=number)],
-        "plot": plots.over_time([(points[0][0] - 1, head["CA_OPEN"]), *points] if points else [], "Balance of the account"),
+        "head": head, "persons": desk.all("persons", account=account),
+        "positions": desk.table("positions", account=account),
+        "open": desk.orders("open", account, sql=waiting),
+        "cash": desk.table("cash", account=account, **days),
+        "orders": desk.orders(account=account, **days),
+        "months": [row["MONTH"] for row in desk.all("months", account=account)],
+        "plot": plots.over_time(points, "Balance of the account"),
     }
 
 
-OPEN = "SELECT * FROM ({}) WHERE STATUS IN ('SBMT', 'PNDG')"
+def thing(title, *parts, whose=None, pairs=(), actions=(), explained=None):
+    """A screen of heads and tables: the caption of each, and what it says if it is empty."""
+    return {"title": title, "parts": parts, "whose": whose, "pairs": pairs, "actions": actions,
+            "explained": explained, "template": "thing.html"}
 
 
-def holding(desk, number, symbol):
-    head = desk.one("account", f"account {number}", account=number)
-    security = desk.one("security", f"security {symbol}", symbol=symbol)
-    given = {"account": number, "symbol": symbol}
-    return {"head": head, "security": security, "facts": derive.holding_facts(desk.conn, number, symbol),
-            "lots": desk.table("lots", **given), "trades": desk.table("trades", "holding_trades", **given)}
+def holding(desk, account, symbol):
+    head, security = desk.one("account", account), desk.one("security", symbol)
+    facts, given = derive.holding_facts(desk.conn, account, symbol), {"account": account, "symbol": symbol}
+    names = ("Shares", "Cost basis", "Worth", "Unrealised gain", "Realised gain", "Last price",
+             "Purchases", "Sales")
+    return thing(
+        f"{symbol} {security['S_NAME']} of account {account}",
+        ("Lots, the oldest first", desk.table("lots", **given), "No lot is open."),
+        ("Completed trades, the newest first", desk.table("trades", "holding_trades", **given), "None."),
+        whose=head, pairs=[(name, facts[name]) for name in names],
+        explained=("holding", account, symbol))
 
 
-def trade(desk, number):
-    row = desk.one("trade", f"trade {number}", trade=number)
-    made = derive.Trade(desk.conn, row) if row["T_ST_ID"] == "CMPT" else None
-    return {"row": row, "made": made, "statuses": desk.table("statuses", trade=number), "side": rows.side_of(row["T_TT_ID"])}
+def customer(desk, customer):
+    head = desk.one("customer", customer)
+    taxes = [f"{tax['TX_NAME']} {words.percent(tax['TX_RATE'], 100_000)}"
+             for tax in desk.all("customer_taxes", customer=customer)]
+    return thing(
+        f"{head['C_F_NAME']} {head['C_L_NAME']}",
+        ("Accounts", desk.table("accounts", "customer_accounts", customer=customer), "None."),
+        pairs=[("Customer", str(customer)), ("Tax id", head["C_TAX_ID"]), ("Tier", head["C_TIER"]),
+               ("Taxes on gains", ", ".join(taxes) or "none")])
+
+
+def security(desk, symbol):
+    head = desk.one("security", symbol)
+    return thing(
+        f"{symbol} {head['S_NAME']}",
+        ("Pending, nearest to the last price first",
+         desk.table("pending", symbol=symbol, now=desk.now), "No order waits for a price."),
+        ("Accounts that hold it", desk.table("holders", symbol=symbol), "Nobody holds it."),
+        ("Trades and orders, the newest first", desk.orders(symbol=symbol), "None."),
+        pairs=[("Last price", head["LAST_PRICE"]), ("since", head["SINCE"][:19]),
+               ("Volume", head["LT_VOL"]), ("Held by all", head["HELD"]),
+               ("Exchange", head["S_EX_ID"]), ("Sector", head["S_SECTOR"])],
+        actions=[("Tick", url_for("row", kind="feed", SYMBOL=symbol), False)])
+
+
+def market(desk):
+    return thing("Market", ("Securities", desk.table("securities"), "None."))
+
+
+def orders(desk):
+    status = desk.arguments.get("status") or None
+    chosen = [(words.STATUSES[each] if each else "All", url_for("orders", status=each), each == status)
+              for each in (None, *words.STATUSES)]
+    return thing("Orders", (f"{words.STATUSES.get(status, 'All')}, the newest first",
+                            desk.orders(status=status), "None."), actions=chosen)
+
+
+def broker(desk, broker):
+    head = desk.one("broker", broker)
+    return thing(
+        head["B_NAME"],
+        ("Completed trades, the newest first",
+         desk.table("trades", "broker_trades", broker=broker), "None."),
+        pairs=[("Broker", str(broker)), ("Commissions", head["COMMISSIONS"]),
+               ("Trades", head["B_NUM_TRADES"]), ("Accounts", head["ACCOUNTS"])],
+        explained=("broker", broker))
+
+
+def brokers(desk):
+    total = record(desk.conn, "volume_total")
+    return thing(
+        "Brokers", ("All brokers", desk.table("brokers"), "None."),
+        ("Pending volume by sector", desk.table("volumes"), "No order is pending."),
+        pairs=[("Pending volume of all brokers", total["VOLUME"]), ("Pending orders", total["ORDERS"])])
+
+
+def batch(desk, batch):
+    return thing(f"Batch {batch}", ("Accepted rows", desk.table("batch", batch=batch), "None."))
+
+
+def trade(desk, trade):
+    row = desk.one("trade", trade)
+    return {"row": row, "made": derive.Trade(desk.conn, row) if row["T_ST_ID"] == "CMPT" else None,
+            "statuses": desk.table("statuses", trade=trade), "side": rows.side_of(row["T_TT_ID"])}
+
+
+def find(desk):
+    text = desk.arguments.get("q", "").strip()[:200]
+    number = int(text) if text.isdecimal() and len(text) < 14 else None
+    return {"text": text, "found": text and desk.all("find", text=text, number=number), "names": NAMES}
+
+
+def reports(desk):
+    return {}
+
+
+def statement(desk, account):
+    """The statement of an account for a month: cash by SQL, the lots as of its end."""
+    head, month = desk.one("account", account), desk.arguments.get("month") or words.month_of(desk.today)
+    first, last = words.days_of_month(month)
+    given = {"account": account, "first": first, "last": last}
+    before = record(desk.conn, "cash_before", account=account, stamp=first * DAY_MS)
+    cash, opening = desk.all("cash", **given)[::-1], head["CA_OPEN"] + (before["CENTS"] or 0)
+    closing = opening + sum(words.cents_of(row["AMOUNT"]) for row in cash)
+    reporting.choose(desk.conn, day=min(last, reporting.last_day_of(desk.conn)), account=account)
+    return {"head": head, "first": day_text(first), "last": day_text(last), "cash": cash,
+            "opening": amount_text(opening), "closing": amount_text(closing), "month": month,
+            "margin": desk.all("margin_of_month", **given), "lots": desk.all("lots_at"),
+            "is_open": last >= desk.today}
+
+
+def report(desk, name):
+    """A report with the options of its command. Raises ValueError for a wrong one."""
+    if name not in tables.REPORTS:
+        abort(404, f"There is no report {name}: the list of reports has all.")
+    made, options = tables.REPORTS[name], {}
+    for option in made.options:
+        text = desk.arguments.get(option, "").strip()
+        is_day = option in ("day", "from", "to")
+        read = reporting.day_of_text if is_day else str if option == "symbol" else reporting.id_of_text
+        try:
+            options.update({option: read(text)} if text else {})
+        except ValueError:
+            wanted = "day, as 2026-03-31" if is_day else "id"
+            raise ValueError(f"--{option}: {text} is no {wanted}.") from None
+    reporting.require(desk.conn, "This desk", options)
+    if "from" in made.options:
+        day = options.pop("day", None)
+        options["first"] = options.pop("from", day or 0)
+        options["last"] = options.pop("to", day or reporting.LAST_DAY)
+    reporting.choose(desk.conn, **options)
+    return {"report": made, "name": name, "rows": desk.table("rows", sql=made.sql)}
 
 
 def facts(desk, form, arguments):
     """The lines of a screen that `brk explain` has too."""
     if form == "trade":
-        row = desk.one("trade", "such trade", trade=arguments[0])
-        return derive.Trade(desk.conn, row).facts() if row["T_ST_ID"] == "CMPT" else derive.waiting_facts(row)
+        row = desk.one("trade", *arguments)
+        made = row["T_ST_ID"] == "CMPT"
+        return derive.Trade(desk.conn, row).facts() if made else derive.waiting_facts(row)
     if form == "account":
-        return derive.account_facts(desk.conn, desk.one("account", "such account", account=arguments[0]))
-    if form == "holding":
-        return derive.holding_facts(desk.conn, *arguments)
-    return derive.broker_facts(desk.conn, arguments[0])
+        return derive.account_facts(desk.conn, desk.one("account", *arguments))
+    read = {"holding": derive.holding_facts, "broker": derive.broker_facts}
+    return read[form](desk.conn, *arguments) if form in read else abort(404)
 
 
-def statement(desk, number, month):
-    """The statement of an account for a month: cash by SQL, the lots as of its end."""
-    head = desk.one("account", f"account {number}", account=number)
-    first, last = words.days_of_month(month)
-    given = {"account": number, "first": first, "last": last}
-    before = record(desk.conn, "cash_before", account=number, stamp=first * DAY_MS)
-    cash = desk.all("cash", **given)[::-1]
-    opening = head["CA_OPEN"] + (before["CENTS"] or 0)
-    reporting.choose(desk.conn, day=min(last, reporting.last_day_of(desk.conn)), account=number)
-    return {"head": head, "first": day_text(first), "last": day_text(last), "cash": cash, "month": month,
-            "opening": opening, "closing": opening + sum(cents_of(row["AMOUNT"]) for row in cash),
-            "margin": desk.all("margin_of_month", **given), "lots": desk.all("lots_at"),
-            "is_open": last >= desk.today}
-
-
-def report(desk, name, given):
-    """A report with its options, which are those of the command; raises ValueError for a wrong one."""
-    made, options = tables.REPORTS[name], {}
-    for option in made.options:
-        text = given.get(option, "").strip()
-        if text:
-            read = {"day": reporting.day_of_text, "from": reporting.day_of_text, "to": reporting.day_of_text,
-                    "symbol": str}.get(option, reporting.id_of_text)
-            try:
-                options[option] = read(text)
-            except ValueError:
-                raise ValueError(f"--{option}: {text} is no {'day, as 2026-03-31' if read == reporting.day_of_text else option}") from None
-    reporting.require(desk.conn, "This desk", options)
-    if "from" in made.options:
-        day = options.pop("day", None)
-        options["first"], options["last"] = options.pop("from", day or 0), options.pop("to", day or reporting.LAST_DAY)
-    reporting.choose(desk.conn, **options)
-    return {"report": made, "given": given, "table": desk.table("rows", sql=made.sql), "name": name}
-
-
-def settings_of(given):
-    """Where the nightly copies are, and what they are named for."""
-    folder = given.copies or os.environ.get("BRK_COPIES")
-    return (folder, pathlib.Path(given.file).stem) if folder else None
+# the address of each screen, and what reads it; its template has its name
+SCREENS = {
+    "/": today, "/account/<int:account>": account, "/account/<int:account>/<symbol>": holding,
+    "/customer/<int:customer>": customer, "/security/<symbol>": security, "/market": market,
+    "/orders": orders, "/broker/<int:broker>": broker, "/brokers": brokers, "/batch/<batch>": batch,
+    "/trade/<int:trade>": trade, "/confirmation/<int:trade>": trade, "/find": find,
+    "/statement/<int:account>": statement, "/reports": reports, "/report/<name>": report,
+}

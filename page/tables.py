@@ -1,4 +1,4 @@
-"""Tables of the page: each is a query in queries/ or a report, which SQL sorts, filters, cuts and exports."""
+"""Tables: each is a query in queries/ or a report, which SQL sorts, filters, cuts and exports."""
 
 import csv
 import importlib.machinery
@@ -7,6 +7,7 @@ import io
 import pathlib
 
 import reporting
+from flask import url_for
 
 from . import words
 
@@ -16,18 +17,28 @@ LOADER = importlib.machinery.SourceFileLoader("report", str(reporting.HERE / "re
 report = importlib.util.module_from_spec(importlib.util.spec_from_loader("report", LOADER))
 LOADER.exec_module(report)
 QUERIES = {path.stem: report.Report(path) for path in FOLDER.glob("*.sql")}
+for query in QUERIES.values():
+    query.sql = query.sql.rstrip()
 REPORTS = report.reports()
 
-# the columns that lead somewhere: the route of each, and the name of its argument
+# the columns that lead somewhere: the address of each, and the name in it
 LINKS = {
     "TRADE": ("trade", "trade"), "LOT": ("trade", "trade"), "ACCOUNT": ("account", "account"),
     "CUSTOMER": ("customer", "customer"), "BROKER": ("broker", "broker"),
     "SYMBOL": ("security", "symbol"), "BATCH": ("batch", "batch"),
 }
 # whole numbers that are no quantities
-IDS = {*LINKS, "CASH_ROW", "N", "K_N", "KEY", "TAX_STATUS", "FIRST_ROW", "LAST_ROW"}
-ACTIONS = {"result": ("Result", "TRADE"), "cancel": ("Cancel", "TRADE"), "feed": ("Tick", "SYMBOL")}
+IDS = {*LINKS, "CASH_ROW", "N", "TAX_STATUS", "FIRST_ROW", "LAST_ROW"}
 NOTES = {"NAME", "NOTE", "EXECUTOR", "SETTLES_BY", "FIELDS", "REPLY", "EXCHANGE"}
+# what a button of a row leads to: its label, and the column that its form has
+ACTIONS = {"result": ("Result", "TRADE"), "cancel": ("Cancel", "TRADE"), "feed": ("Tick", "SYMBOL")}
+CODES = {"TYPE": words.TYPES, "STATUS": words.STATUSES}
+
+
+class Action:
+    def __init__(self, kind, row):
+        self.label, field = ACTIONS[kind]
+        self.link = url_for("row", kind=kind, **{field: row[field]})
 
 
 class Cell:
@@ -38,44 +49,36 @@ class Cell:
         self.text = "" if value is None else str(value)
         self.kind = "note" if column in NOTES else "text"
         if column == "ACTION":
-            self.kind = "action"
+            self.kind, self.action = "action", Action(value, row) if value else None
         elif column in IDS:
-            self.kind = "id"
-            self.link = LINKS.get(column) if value not in (None, "") else None
+            self.kind, self.link = "id", LINKS.get(column) if self.text else None
         elif isinstance(value, int) or words.AMOUNT.fullmatch(self.text):
             self.kind = "money" if "." in self.text else "number"
             self.text = words.grouped(value)
         elif words.PERCENT.fullmatch(self.text):
             self.kind = "number"
         elif words.TIME.fullmatch(self.text):
-            self.title, self.text, self.kind = f"{value} UTC", words.TIME.fullmatch(value)[1], "time"
-        elif column == "TYPE":
-            self.text, self.title = words.TYPES.get(value, value), value
-        elif column == "STATUS":
-            self.text, self.title = words.STATUSES.get(value, value), value
-        if column == "DIFFERENCE" and value not in (None, "", *report.NONE):
-            self.kind += " wrong"
+            self.title, self.text, self.kind = f"{value} UTC", value[:-4], "time"
+        elif column in CODES:
+            self.text, self.title = CODES[column].get(value, value), value
         if self.text.startswith("-") and self.kind in ("money", "number"):
             self.kind += " minus"
-        if column == "SYMBOL" and "ACCOUNT" in row:
-            self.title = "the security"
-
-    @property
-    def action(self):
-        """The label, the kind of row, and the field of its form."""
-        label, field = ACTIONS[self.value]
-        return label, self.value, field
+        if column == "DIFFERENCE" and value not in (None, "", *report.NONE):
+            self.kind += " wrong"
 
 
-class Shown:
+class Part:
     """A part of a table: its heads, its rows of cells, and where it is in the whole."""
 
-    def __init__(self, key, heads, rows, count, start, order, is_down, filter_text):
-        self.key, self.heads, self.count, self.start = key, heads, count, start
-        self.order, self.is_down, self.filter = order, is_down, filter_text
-        self.rows = [[Cell(head, value, heads) for head, value in zip(heads, row)] for row in rows]
-        self.end = start + len(self.rows)
-        self.has_filter = count > 5 or bool(filter_text)
+    def __init__(self, table, heads, rows, count, most):
+        self.key, self.heads, self.count, self.start = table.key, heads, count, table.start
+        self.order, self.is_down, self.filter = table.order, table.is_down, table.filter
+        self.rows = [[Cell(head, row[head], row) for head in heads] for row in rows]
+        self.kinds = [cell.kind.split()[0] for cell in self.rows[0]] if rows else []
+        self.end = self.start + len(rows)
+        self.has_filter, self.is_cut = count > 5 or bool(self.filter), bool(self.start) or self.end < count
+        self.others = [("back", max(0, self.start - most) or None)] if self.start else []
+        self.others += [("more", self.end)] if self.end < count else []
 
 
 class Table:
@@ -86,7 +89,7 @@ class Table:
         start = arguments.get(f"{key}.from", "0")
         self.start = int(start) if start.isdecimal() and len(start) < 10 else 0
         self.order = arguments.get(f"{key}.sort", "")
-        self.is_down = arguments.get(f"{key}.down", "") == "1"
+        self.is_down = arguments.get(f"{key}.down") == "1"
         self.filter = arguments.get(f"{key}.has", "").strip()
 
     def heads(self):
@@ -97,31 +100,31 @@ class Table:
         """The SQL of the rows that the filter leaves, in their order."""
         sql, given = f"SELECT * FROM ({self.sql})", dict(self.given)
         if self.filter:
-            sql += f" WHERE has_words(:has, {', '.join(quoted(head) for head in heads)})"
-            given["has"] = self.filter.replace(",", "") if self.filter[:1].isdigit() else self.filter
+            sql += f" WHERE has_words(:has, {', '.join(map(quoted, heads))})"
+            # an amount is typed as it is shown
+            given["has"] = self.filter.replace(",", "")
         if self.order in heads:
             sql += f" ORDER BY sort_key({quoted(self.order)}){' DESC' if self.is_down else ''}"
         return sql, given
 
-    def shown(self, most=ROWS):
+    def shown(self, most):
         heads = self.heads()
         sql, given = self.chosen(heads)
         rows = self.conn.execute(f"{sql} LIMIT {most + 1} OFFSET {self.start}", given).fetchall()
         count = self.start + len(rows)
         if len(rows) > most or not rows and self.start:
             ((count,),) = self.conn.execute(f"SELECT count(*) FROM ({sql})", given)
-        return Shown(self.key, heads, rows[:most], count, self.start, self.order, self.is_down, self.filter)
+        return Part(self, heads, rows[:most], count, most)
 
     def csv(self):
         """All rows as CSV: amounts and quantities are numbers with a plain minus."""
         heads = [head for head in self.heads() if head != "ACTION"]
-        sql, given = self.chosen(heads)
+        sql, given = self.chosen(self.heads())
         text = io.StringIO(newline="")
         writer = csv.writer(text, lineterminator="\n")
         writer.writerow(heads)
-        columns = ", ".join(quoted(head) for head in heads)
-        for row in self.conn.execute(f"SELECT {columns} FROM ({sql})", given):
-            writer.writerow([words.plain_cell(value) for value in row])
+        for row in self.conn.execute(sql, given):
+            writer.writerow([words.plain_cell(row[head]) for head in heads])
         return text.getvalue()
 
 

@@ -70,6 +70,10 @@ def sort_key(value):
     return float(found[1]) if found else value
 
 
+def cents_of(text):
+    return int(text.replace(".", ""))
+
+
 def plain_cell(value):
     """A cell of CSV: a text that a spreadsheet takes for a formula is marked as a text."""
     is_number = isinstance(value, int) or value is None or AMOUNT.fullmatch(str(value))
@@ -118,6 +122,3 @@ def last_working_day(day):
     while (day + 3) % 7 > 4:
         day -= 1
     return day
-
-
-__all__ = ["DAY_MS", "TYPES", "amount_text", "day_text"]

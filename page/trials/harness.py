@@ -252,6 +252,8 @@ class Screen:
 
     @property
     def snapshot(self):
+        if not self.reader.attributes.get("data-snapshot"):
+            raise ValueError(f"a screen without a snapshot: {self.status} {self.problems}")
         return self.page.runtime / "snapshots" / self.reader.attributes["data-snapshot"] / "desk.db"
 
     @property
