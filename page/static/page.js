@@ -18,7 +18,7 @@ function ask(url, more = {}) {
 async function show(url, more) {
   const reply = await ask(url, more);
   if (reply.status === 401) {
-    tell("This page opens by a link of its own for each clerk, which lasts a working day: desk page, or open-page, prints it.");
+    tell("This page opens by a link of its own for each clerk, which lasts a working day: `python3 page --link INITIALS` prints it.");
     return;
   }
   const made = new DOMParser().parseFromString(await reply.text(), "text/html");

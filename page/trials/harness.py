@@ -146,7 +146,8 @@ class Page:
         return f"http://127.0.0.1:{self.port}"
 
     def link(self, initials="MK", *more):
-        done = subprocess.run([PYTHON, str(TOP / "page/open-page"), initials, "--runtime", str(self.runtime), *more],
+        words = ["--end", initials] if "--end" in more else ["--link", initials]
+        done = subprocess.run([PYTHON, str(TOP / "page"), *words, "--runtime", str(self.runtime)],
                               capture_output=True, text=True)
         return done.stdout.strip()
 

@@ -42,8 +42,8 @@ def links(trial):
                                                 if path.is_file() and path.suffix != ".db" and "snapshots" not in path.parts), False)
     trial.page.link("AB", "--end")
     trial.tell("and no longer once it is ended", trial.page.ask("GET", "/account/100", key=key)[0], 401)
-    done = subprocess.run([PYTHON, str(TOP / "page/open-page"), "mk7", "--runtime", str(trial.page.runtime)], capture_output=True)
-    trial.tell("initials are capital letters", done.returncode, 2)
+    done = subprocess.run([PYTHON, str(TOP / "page"), "--link", "mk7", "--runtime", str(trial.page.runtime)], capture_output=True)
+    trial.tell("initials are capital letters", done.returncode, 1)
 
 
 def other_site(trial):
