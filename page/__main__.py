@@ -1,4 +1,4 @@
-"""The page that the staff of a desk work in: screens of live copies of its file, and rows in two steps.
+"""The page that the staff of a desk work in: screens of live copies, and rows in two steps.
 
     python3 page --db FILE [--door P] [--key FILE] [--port P] [--runtime FOLDER] [--journals FOLDER]
         [--copies FOLDER] [--colour NAME] [--desk-clock] [--brk PROGRAM]
@@ -8,7 +8,7 @@
 
 With --db it reads the file of a desk that runs, and sends rows to the desk's door. With --copy it
 shows a copy and books nothing. --link prints a link that opens the page once, for the clerk with
-these one to four capital letters; --end ends what the clerk has. docs/PAGE.md describes the page."""
+these one to four capital letters; --end ends what the clerk has. docs/PAGE.md has more."""
 
 import argparse
 import os
@@ -29,8 +29,8 @@ def arguments():
     words = argparse.ArgumentParser(prog="page", description=__doc__,
                                     formatter_class=argparse.RawDescriptionHelpFormatter)
     which = words.add_mutually_exclusive_group(required=True)
-    for name in ("db", "copy", "link", "end"):
-        which.add_argument(f"--{name}", metavar={"db": "FILE", "copy": "COPY"}.get(name, "INITIALS"))
+    for name, what in (("db", "FILE"), ("copy", "COPY"), ("link", "INITIALS"), ("end", "INITIALS")):
+        which.add_argument(f"--{name}", metavar=what)
     words.add_argument("--port", type=int, default=8124, metavar="P")
     words.add_argument("--door", type=int, default=8123, metavar="P")
     words.add_argument("--hours", type=int, default=12, metavar="H")
@@ -69,7 +69,7 @@ def served(given, who, host):
     from page import app, door, live
 
     given.file, given.host = os.path.realpath(given.db or given.copy), host
-    runtime = given.runtime or os.environ.get("RUNTIME_DIRECTORY") or tempfile.mkdtemp(prefix="page-")
+    runtime = given.runtime or os.environ.get("RUNTIME_DIRECTORY") or tempfile.mkdtemp()
     journals = given.journals or os.environ.get("STATE_DIRECTORY") or f"{given.file}-page"
     snapshots = live.Snapshots(given.file, pathlib.Path(runtime) / "snapshots", bool(given.copy))
     with snapshots.used():

@@ -1,4 +1,4 @@
-"""The addresses of the page: who may ask, which snapshot a screen shows, and the two steps of a row."""
+"""The addresses of the page: who may ask, which snapshot a screen shows, the two steps of a row."""
 
 import contextlib
 import os
@@ -18,9 +18,10 @@ from .live import NoSnapshot
 
 HEADERS = {
     "Content-Security-Policy": (
-        "default-src 'none'; script-src 'self'; style-src 'self'; img-src 'self'; connect-src 'self';"
-        " base-uri 'none'; form-action 'self'; frame-ancestors 'none'"),
-    "X-Content-Type-Options": "nosniff", "X-Frame-Options": "DENY", "Referrer-Policy": "no-referrer",
+        "default-src 'none'; script-src 'self'; style-src 'self'; img-src 'self'; connect-src 'self'; "
+        "base-uri 'none'; form-action 'self'; frame-ancestors 'none'"),
+    "X-Content-Type-Options": "nosniff", "X-Frame-Options": "DENY",
+    "Referrer-Policy": "no-referrer",
     "Cross-Origin-Resource-Policy": "same-origin", "Cross-Origin-Opener-Policy": "same-origin",
     "Cache-Control": "no-store",
 }
@@ -34,7 +35,8 @@ def create(given, snapshots, clerks, who):
     app.jinja_env.trim_blocks = app.jinja_env.lstrip_blocks = True
     app.jinja_env.filters.update(
         grouped=words.grouped, shown=shown, day=words.day_text, sentence=rows.sentence,
-        words=desk_client.words_of, amount=words.amount_text, money=lambda cents: words.grouped(words.amount_text(cents)))
+        words=desk_client.words_of, amount=words.amount_text,
+        money=lambda cents: words.grouped(words.amount_text(cents)))
     app.jinja_env.globals.update(
         TYPES=words.TYPES, STATUSES=words.STATUSES, TAX=words.TAX, ENDS=words.ENDS,
         REPORTS=tables.REPORTS, KINDS=rows.KINDS, ACTIONS=rows.ACTIONS, given=given,
@@ -57,7 +59,9 @@ def shown(value):
 
 def url_with(**changes):
     """The address of this screen with other arguments; None takes one away."""
-    chosen = {key: value for key, value in {**request.args, **changes}.items() if value not in (None, "")}
+    chosen = {**request.args, **changes}
+    for key in [key for key, value in chosen.items() if value in (None, "")]:
+        del chosen[key]
     return url_for(request.endpoint, **request.view_args, **chosen)
 
 
@@ -128,12 +132,12 @@ def add_screens(app, given, snapshots):
     for rule, read in screens.SCREENS.items():
         added(rule, read)
 
-    @app.route("/explained/<form>/<path:names>")
+    @app.route("/explained/<any(trade, account, holding, broker):form>/<path:names>")
     def explained(form, names):
         """The program's own text over the snapshot of a screen, and where the screen differs."""
         parts = [int(part) if part.isdecimal() else part for part in names.split("/")]
         with opened(given, snapshots, request.args.get("snapshot")) as desk:
-            facts = screens.facts(desk, form, parts)
+            facts = derive.facts(desk.conn, form, *parts)
             text, why = derive.explained(desk.snapshot.for_program(), form, *parts)
             differing = list(derive.differences(facts, text)) if text else []
             return render_template("explained.html", text=text, why=why, differing=differing,
@@ -168,13 +172,14 @@ def add_rows(app, given, snapshots):
         values = {key: value for key, value in request.args.items() if key != "step"}
         with opened(given, snapshots) as desk:
             def record(name, field):
-                text = values.get(field, "")
-                return tables.record(desk.conn, name, **{name: int(text)}) if text.isdecimal() else None
+                key = values.get(field, "")
+                return tables.record(desk.conn, name, **{name: int(key)}) if key.isdecimal() else None
 
             head = record("account", "ACCOUNT")
             people = desk.all("persons", account=head["CA_ID"]) if head else []
-            return page("row.html", desk, kind=kind, values=values, wrong_name=name, wrong=wrong, head=head,
-                        fixed=rows.FIXED.get(kind), trade=record("trade", "TRADE"), people=people)
+            return page("row.html", desk, kind=kind, values=values, wrong_name=name, wrong=wrong,
+                        head=head, fixed=rows.FIXED.get(kind), trade=record("trade", "TRADE"),
+                        people=people)
 
     @app.route("/row/<kind>")
     def row(kind):
@@ -204,7 +209,7 @@ def add_rows(app, given, snapshots):
             why = desk_client.words_of(error.fields)
             return first_step(kind, wrong=f"The desk refuses this: {why}")
         except desk_client.ClientError as error:
-            return first_step(kind, wrong=f"{error} No estimate, so nothing to book yet: try again.")
+            return first_step(kind, wrong=f"{error} No estimate, so nothing to book yet.")
 
     @app.post("/book")
     def book():
@@ -257,11 +262,11 @@ def add_errors(app):
         for kind in kinds:
             app.register_error_handler(kind, told)
 
-    handled(503, "No snapshot", "This screen tries again by itself. Rows that you sent are safe: a red "
-            "line has those without a reply.", NoSnapshot)
+    handled(503, "No snapshot", "This screen tries again by itself. Rows that you sent are safe: a "
+            "red line has those without a reply.", NoSnapshot)
     handled(400, "Not so", "Go back and correct it.", reporting.Refused, ValueError)
-    handled(503, "No journal", "If another program has your journal, end that program. Then load this "
-            "anew.", desk_client.ClientError)
+    handled(503, "No journal", "If another program has your journal, end that program. Then load "
+            "this anew.", desk_client.ClientError)
     handled(500, None, "Begin with Today, or find what you look for above.", HTTPException)
-    handled(500, "A fault of the page", "Nothing was booked by this. Its program printed more: keep that "
-            "for whoever looks after the page.", Exception)
+    handled(500, "A fault of the page", "Nothing was booked by this. Its program printed more: keep "
+            "that for whoever looks after the page.", Exception)

@@ -1,4 +1,4 @@
-"""The clerks' rows: sent through the door once a click, each stored in the clerk's journal before that."""
+"""The clerks' rows: sent through the door once a click, each in the clerk's journal before that."""
 
 import contextlib
 import http.client
@@ -16,14 +16,15 @@ class Door(desk_client.Http):
     """Sends a request once: nothing is sent twice by itself."""
 
     def send(self, target, texts):
-        """The word and the value of a reply. Raises NoReply, or NotSent for a request that the desk does not take."""
+        """The word and the value of a reply. Raises NoReply, or NotSent for a wrong request."""
         try:
             word, value = self.once(target, texts)
         except desk_client.NotReached as error:
-            raise desk_client.NoReply(f"The desk was not reached ({error}), so nothing was booked.") from error
+            raise desk_client.NoReply(f"The desk was not reached ({error}): nothing was booked.") from error
         except (http.client.HTTPException, OSError) as error:
             why = str(error) or type(error).__name__
-            raise desk_client.NoReply(f"No reply came ({why}), so it is not known if this was booked.") from error
+            told = f"No reply came ({why}): it is not known if this was booked."
+            raise desk_client.NoReply(told) from error
         finally:
             self.close()
         if word == "error":
@@ -37,7 +38,7 @@ class Door(desk_client.Http):
 
 
 class Clerk:
-    """A clerk's journal and way to the desk. Each row has a batch of its own, with the initials in its name."""
+    """A clerk's journal and way to the desk. Each row has a batch, whose name has the initials."""
 
     def __init__(self, initials, folder, port, key):
         self.initials, self.lock, self.sending = initials, threading.Lock(), None
@@ -61,10 +62,11 @@ class Clerk:
 
     def waiting(self):
         """The rows without a reply: batch, fields, and whether one is being sent."""
-        return [(batch, self.journal.batches[batch][1], batch == self.sending) for batch in list(self.journal.open)]
+        return [(batch, self.journal.batches[batch][1], batch == self.sending)
+                for batch in list(self.journal.open)]
 
     def same(self, fields):
-        """The batches of rows of the last ten minutes with the same fields that were not refused."""
+        """The batches of the last ten minutes with the same fields, without those refused."""
         since = time.time_ns() // 1_000_000 - RECENT_MS
         return [batch for batch, rows in list(self.journal.batches.items())
                 if rows.get(1) == fields and self.journal.readings[batch] > since
@@ -117,8 +119,8 @@ class Clerks:
         if not mark.exists():
             mark.write_text(desk, encoding="utf-8")
         elif mark.read_text(encoding="utf-8") != desk:
-            raise ValueError(f"{self.folder} has the journals of {mark.read_text(encoding='utf-8')}, "
-                             f"and this desk is {desk}: name another folder with --journals")
+            raise ValueError(f"{self.folder} has the journals of {mark.read_text(encoding='utf-8')} and "
+                             f"not of {desk}: name another folder by --journals")
 
     def named(self, initials):
         with self.lock:

@@ -1,4 +1,4 @@
-"""Snapshots of a desk's file: live copies that all screens share for some seconds, and that are deleted unused."""
+"""Snapshots of a desk's file: live copies that screens share for some seconds; deleted unused."""
 
 import contextlib
 import os
@@ -16,7 +16,7 @@ from . import words
 
 # how old a snapshot may be that a further screen shares
 FRESH_SECONDS = 5
-# how long one stays that no screen uses: the text of the program about a screen comes after the screen
+# how long one stays that no screen uses: the program's text comes after its screen
 KEPT_SECONDS = 20
 
 
@@ -34,8 +34,8 @@ class Snapshot:
         with contextlib.closing(self.connect()) as conn:
             schema, last = conn.execute("SELECT D_SCHEMA, D_LAST FROM DESK").fetchone()
         if schema != desk_books.SCHEMA:
-            raise NoSnapshot(f"the file is of schema {schema}, and this page reads {desk_books.SCHEMA}: "
-                             "brk audit upgrades an older file, a newer one needs a newer page")
+            raise NoSnapshot(f"it is of schema {schema}, and this page reads {desk_books.SCHEMA}: brk "
+                             "audit upgrades an older file, a newer one needs a newer page")
         self.schema, self.stamp = schema, last or 0
 
     @property
@@ -89,8 +89,8 @@ class Snapshots:
         is_fresh = found and (self.is_copy or time.monotonic() - found.begun < FRESH_SECONDS)
         taken = found if is_fresh and (self.is_copy or found.stamp >= least) else self.take()
         if taken.stamp < least and not self.is_copy:
-            raise NoSnapshot(f"the snapshot of {self.file} lacks your last row, of the stamp {least}: "
-                             "is the door that of another desk?")
+            raise NoSnapshot(f"the snapshot of {self.file} lacks your last row, of the stamp {least}. "
+                             "Is the door that of another desk?")
         return taken
 
     @contextlib.contextmanager

@@ -5,23 +5,34 @@ from markupsafe import Markup, escape
 from .words import amount_text, day_text, grouped
 
 WIDTH, HEIGHT, LEFT, RIGHT, TOP, BOTTOM = 520, 180, 124, 10, 12, 28
+# the ladder: where its bars begin, and the length of the longest
+MIDDLE, LONGEST = 290, 85
 
 
-def element(name, content="", **attributes):
-    texts = (f' {key.rstrip("_").replace("_", "-")}="{escape(value)}"' for key, value in attributes.items())
-    return Markup(f"<{name}{''.join(texts)}>{content}</{name}>")
+def element(tag, content="", **attributes):
+    """An element; a mark at the end of a name is dropped, others are hyphens."""
+    texts = [f' {name.rstrip("_").replace("_", "-")}="{escape(value)}"'
+             for name, value in attributes.items()]
+    return Markup(f"<{tag}{''.join(texts)}>{content}</{tag}>")
+
+
+def line(kind, x1, y1, x2, y2):
+    return element("line", class_=kind, x1=x1, y1=y1, x2=x2, y2=y2)
 
 
 def svg(label, parts, height=HEIGHT):
     title = element("title", escape(label))
-    return element("svg", title + Markup("").join(parts), viewBox=f"0 0 {WIDTH} {height}", role="img", class_="plot")
+    return element("svg", title + Markup("").join(parts), viewBox=f"0 0 {WIDTH} {height}", role="img",
+                   class_="plot")
 
 
 def steps_of(low, high):
     """Some round amounts from one amount to another."""
-    step = 1
-    while (high - low) // step > 4:
-        step *= 5 if str(step)[0] == "1" and (high - low) // step <= 40 else 10 if str(step)[0] == "1" else 2
+    step, factors = 1, (2, 2.5, 2)
+    for factor in factors * 20:
+        if (high - low) // step <= 5:
+            break
+        step = int(step * factor)
     return range(-(-low // step) * step, high + 1, step)
 
 
@@ -29,44 +40,45 @@ def over_time(points, name):
     """A line of amounts in cents by day, each until the next."""
     if not points:
         return ""
-    first, last = points[0][0], max(points[-1][0], points[0][0] + 1)
-    low, high = min(0, *(cents for _, cents in points)), max(0, *(cents for _, cents in points))
-    span = max(1, high - low)
+    (first, _), (last, cents) = points[0], points[-1]
+    low, high = (limit(0, *(cents for _, cents in points)) for limit in (min, max))
 
     def x(day):
-        return round(LEFT + (day - first) * (WIDTH - LEFT - RIGHT) / (last - first), 1)
+        return round(LEFT + (day - first) * (WIDTH - LEFT - RIGHT) / max(1, last - first), 1)
 
     def y(cents):
-        return round(TOP + (high - cents) * (HEIGHT - TOP - BOTTOM) / span, 1)
+        return round(TOP + (high - cents) * (HEIGHT - TOP - BOTTOM) / max(1, high - low), 1)
 
-    parts = []
+    parts, path = [], f"M{x(first)} {y(points[0][1])}"
     for tick in steps_of(low, high):
-        parts.append(element("line", class_="axis" if tick == 0 else "grid", x1=LEFT, x2=WIDTH - RIGHT, y1=y(tick), y2=y(tick)))
-        parts.append(element("text", grouped(amount_text(tick)), x=LEFT - 6, y=y(tick) + 4, text_anchor="end"))
-    path = f"M{x(points[0][0])} {y(points[0][1])}"
-    for day, cents in points[1:]:
-        path += f"H{x(day)}V{y(cents)}"
+        parts.append(line("grid" if tick else "axis", LEFT, y(tick), WIDTH - RIGHT, y(tick)))
+        told = grouped(amount_text(tick))
+        parts.append(element("text", told, x=LEFT - 6, y=y(tick) + 4, text_anchor="end"))
+    for day, value in points:
+        path += f"H{x(day)}V{y(value)}"
     parts.append(element("path", class_="line", d=path))
-    for day, cents in points if len(points) <= 60 else points[-1:]:
-        spot = element("title", f"{day_text(day)}: {grouped(amount_text(cents))}")
-        parts.append(element("circle", spot, class_="spot", cx=x(day), cy=y(cents), r=3,
-                             data_day=day_text(day), data_cents=cents))
-    ends = [(first, "start")] + ([(points[-1][0], "end")] if len(points) > 1 else [])
-    parts += [element("text", day_text(day), x=x(day), y=HEIGHT - 8, text_anchor=anchor) for day, anchor in ends]
-    return svg(f"{name}, {day_text(first)} to {day_text(points[-1][0])}: at the end {grouped(amount_text(points[-1][1]))}", parts)
+    for day, value in points if len(points) <= 60 else points[-1:]:
+        told = element("title", f"{day_text(day)}: {grouped(amount_text(value))}")
+        parts.append(element("circle", told, class_="spot", cx=x(day), cy=y(value), r=3,
+                             data_day=day_text(day), data_cents=value))
+    parts.append(element("text", day_text(first), x=x(first), y=HEIGHT - 8))
+    if last > first:
+        parts.append(element("text", day_text(last), x=x(last), y=HEIGHT - 8, text_anchor="end"))
+    return svg(f"{name} until {day_text(last)}: {grouped(amount_text(cents))}", parts)
 
 
 def ladder(rungs, today):
-    """Bars of what is received and paid on each due day: DAY, cents in, cents out."""
+    """Bars of what is received and paid on each due day: day, cents in, cents out."""
     most = max((abs(cents) for _, *both in rungs for cents in both), default=0) or 1
-    middle, half, parts = 290, 85, []
+    parts = [line("axis", MIDDLE, 0, MIDDLE, 26 * len(rungs) + 6)]
     for place, (day, received, paid) in enumerate(rungs):
-        y, name = 6 + 26 * place, "now" if day == today else "day"
-        parts.append(element("text", day_text(day)[5:], x=0, y=y + 15, class_=name))
-        for cents, sign, kind, end in ((paid, -1, "paid", middle - half - 6), (received, 1, "received", WIDTH)):
-            length = round(abs(cents) * half / most, 1)
-            parts.append(element("rect", x=middle - (length if sign < 0 else 0), y=y, width=length, height=20, class_=kind,
+        y, kind = 6 + 26 * place, "now" if day == today else "day"
+        parts.append(element("text", day_text(day)[5:], x=0, y=y + 15, class_=kind))
+        for cents, name, end in ((paid, "paid", MIDDLE - LONGEST - 6), (received, "received", WIDTH)):
+            length = round(abs(cents) * LONGEST / most, 1)
+            begin = MIDDLE - length if name == "paid" else MIDDLE
+            parts.append(element("rect", class_=name, x=begin, y=y, width=length, height=20,
                                  data_day=day_text(day), data_cents=cents))
-            parts.append(element("text", grouped(amount_text(cents)), x=end, y=y + 15, text_anchor="end", class_=name))
-    parts.append(element("line", class_="axis", x1=middle, x2=middle, y1=0, y2=26 * len(rungs) + 6))
-    return svg("What is paid (left) and received (right) on each due day", parts, 26 * len(rungs) + 8)
+            told = grouped(amount_text(cents))
+            parts.append(element("text", told, x=end, y=y + 15, text_anchor="end", class_=kind))
+    return svg("Paid (left) and received (right) on each due day", parts, 26 * len(rungs) + 8)

@@ -9,28 +9,28 @@ from . import tables, words
 from .derive import half_up
 from .words import TYPES, amount_text, grouped
 
-# each kind of row: its name, and what its button does
-ACTIONS = {"order": ("Order", "Order"), "result": ("Result of a trade", "Book"), "feed": ("Tick of the market", "Book"),
-           "cancel": ("Cancel of an order", "Cancel"), "deposit": ("Deposit", "Deposit"),
-           "withdraw": ("Withdrawal", "Withdraw")}
+# each kind of row: its name, and the field that a screen gives it
+ACTIONS = {"order": "Order", "result": "Result of a trade", "feed": "Tick of the market",
+           "cancel": "Cancel of an order", "deposit": "Deposit", "withdraw": "Withdrawal"}
+FIXED = {"order": "ACCOUNT", "result": "TRADE", "cancel": "TRADE", "deposit": "ACCOUNT",
+         "withdraw": "ACCOUNT"}
 TRADE_STATUS = {"result": "SBMT", "cancel": "PNDG"}
-# what each may refer to: fields that a screen gives, and not the clerk
-FIXED = {"order": "ACCOUNT", "result": "TRADE", "cancel": "TRADE", "deposit": "ACCOUNT", "withdraw": "ACCOUNT"}
+MONEY = ("amount", "price", "price or empty")
 
 
 class Wrong(Exception):
-    """A field that is not as it has to be: its name and a line about it."""
+    """A field that is not as it has to be: its name, and a line about it."""
 
 
 def fields_of(kind, given):
     """The row of a form. Amounts may lack their cents. Raises Wrong."""
     row = [kind]
     for line in KINDS[kind]:
-        name, form = line["field"], line["form"]
-        text = given.get(name, "").strip()
-        if form in ("amount", "price", "price or empty") and re.fullmatch(r"[0-9,]+(\.[0-9])?", text):
+        name, form, text = line["field"], line["form"], given.get(line["field"], "").strip()
+        if form in (*MONEY, "quantity"):
+            text = text.replace(",", "")
+        if form in MONEY and re.fullmatch(r"[0-9]+(\.[0-9])?", text):
             text = f"{text}0" if "." in text else f"{text}.00"
-        text = text.replace(",", "") if form in ("amount", "price", "price or empty", "quantity") else text
         text = text.upper() if form == "symbol" else text
         if not desk_client.has_form(text, line):
             limits = f", from {line['least']} to {line['greatest']}" if line["least"] else ""
@@ -42,34 +42,46 @@ def fields_of(kind, given):
 
 
 class Effect:
-    """What a row does, as far as it is known before it is booked: the sentence, the lines with a value before and
-    after, the warnings, and the words of the button."""
+    """What a row does, as far as it is known before it is booked: the sentence, the lines with a
+    value before and after, the warnings, and the words of the button."""
 
     def __init__(self, sentence, button):
         self.sentence, self.button, self.lines, self.warnings = sentence, button, [], []
         self.trades, self.told = [], None
 
     def change(self, label, before, after, is_cash):
-        """A line with a value before and after. Below zero is a warning, which the button repeats."""
-        text = amount_text if is_cash else str
-        self.lines.append((label, grouped(text(before)), grouped(text(after)), after < 0))
+        """A line with a value before and after. A fall below zero is a warning."""
+        told = [grouped(amount_text(value) if is_cash else value) for value in (before, after)]
+        self.lines.append((label, *told, after < 0))
         if after < 0 and after < before:
-            self.warn(f"{label} {'fall' if label.endswith('s') else 'falls'} below zero: {grouped(text(after))}.",
-                      f"leaving {grouped(text(after))}{'' if is_cash else ' shares'}")
+            what = told[1] if is_cash else f"{told[1]} shares"
+            self.warn(f"{label} below zero: {what}.", f"leaving {what}")
 
-    def warn(self, sentence, words_of_button):
+    def warn(self, sentence, of_button):
         self.warnings.append(sentence)
-        self.button += f", {words_of_button}"
+        self.button += f", {of_button}"
 
     def compare(self, price, last, percent):
         """Says how far a price is from the last one, and warns beyond so many percent."""
-        far = abs(price - last) * 100 > percent * last
-        side = "above" if price > last else "below"
-        apart = words.distance(price, last).lstrip("-")
-        self.lines.append(("Price and last price", grouped(amount_text(last)), grouped(amount_text(price)), far))
-        if far:
-            self.warn(f"{amount_text(price)} is {apart} {side} the last price {amount_text(last)}.",
-                      f"{apart} {side} the last price")
+        old, new, is_far = amount_text(last), amount_text(price), abs(price - last) * 100 > percent * last
+        self.lines.append(("Price after the last price", grouped(old), grouped(new), is_far))
+        if is_far:
+            side = "above" if price > last else "below"
+            far = f"{words.distance(price, last).lstrip('-')} {side} the last price"
+            self.warn(f"{new} is {far} {old}.", far)
+
+    def settle(self, conn, head, kind, symbol, qty, costs, is_cash):
+        """The lines of a trade, for its price, BUY, SELL, tax, commission and charge."""
+        price, buy, sell, tax, commission, charge = costs
+        sign = 1 if kind in words.BUYS else -1
+        withheld = tax if head["CA_TAX_ST"] == 1 else 0
+        amount = -sign * qty * price - charge - commission - withheld
+        self.told = [("Value", qty * price), ("Gain", sell - buy), ("Tax", tax),
+                     ("Commission", commission), ("Charge", charge),
+                     ("Cost" if sign > 0 else "Proceeds", abs(amount))]
+        held = tables.record(conn, "held", account=head["CA_ID"], symbol=symbol)["SHARES"]
+        self.change(f"{symbol} shares", held, held + sign * qty, False)
+        self.change("Cash", head["CA_BAL"], head["CA_BAL"] + (amount if is_cash else 0), True)
 
 
 def side_of(kind):
@@ -80,129 +92,96 @@ def of_account(head):
     return f"account {head['CA_ID']} {head['CA_NAME']} of {head['C_F_NAME']} {head['C_L_NAME']}"
 
 
-def held(conn, account, symbol):
-    row = conn.execute("SELECT HS_QTY FROM HOLDING_SUMMARY WHERE HS_CA_ID = ? AND HS_S_SYMB = ?", (account, symbol)).fetchone()
-    return row[0] if row else 0
-
-
-def closed_values(conn, account, symbol, is_buy, qty, price, is_lifo):
-    """BUY and SELL of the shares that a trade would close now."""
-    sign, buy, sell = "<" if is_buy else ">", 0, 0
-    lots = conn.execute(f"""SELECT abs(H_QTY), H_PRICE FROM HOLDING WHERE H_CA_ID = ? AND H_S_SYMB = ? AND H_QTY {sign} 0
-                            ORDER BY H_DTS {'DESC' if is_lifo else ''}""", (account, symbol))
-    for shares, lot_price in lots:
-        taken = min(shares, qty)
-        qty -= taken
-        buy += taken * (price if is_buy else lot_price)
-        sell += taken * (lot_price if is_buy else price)
-    return buy, sell
-
-
-def settlement(kind, qty, price, charge, commission, tax, tax_status):
-    """What an account receives, in cents."""
-    value = qty * price if kind not in words.BUYS else -qty * price
-    return value - charge - commission - (tax if tax_status == 1 else 0)
-
-
-def settle(effect, conn, head, kind, symbol, qty, costs, is_cash):
-    """The lines of a trade: shares and cash, before and after."""
-    price, buy, sell, tax, commission, charge = costs
-    amount = settlement(kind, qty, price, charge, commission, tax, head["CA_TAX_ST"])
-    effect.told = [("Value", qty * price), ("Gain", sell - buy), ("Tax", tax), ("Commission", commission),
-                   ("Charge", charge), ("Cost" if kind in words.BUYS else "Proceeds", abs(amount))]
-    before = held(conn, head["CA_ID"], symbol)
-    effect.change(f"{symbol} shares", before, before + (qty if kind in words.BUYS else -qty), False)
-    effect.change("Cash", head["CA_BAL"], head["CA_BAL"] + (amount if is_cash else 0), True)
-
-
-def order(conn, row, clerk, percent):
-    _, account, kind, symbol, qty, price, cash, end, first, last, taxid = row
-    head, security = account_of(conn, account), security_of(conn, symbol)
-    at = f"at {price} or better" if kind in ("TLB", "TLS") else f"once the price is {price} or below" if price else "at the market"
-    sentence = (f"{side_of(kind)} {grouped(qty)} {symbol} ({security['S_NAME']}) for {of_account(head)}, {at}; last "
-                f"{security['LAST_PRICE']}. {TYPES[kind]}, settles by {cash}, closes lots {words.ENDS[end]}, "
-                f"ordered by {first} {last} ({taxid}).")
-    effect = Effect(sentence, f"{side_of(kind)} {grouped(qty)} {symbol}{f' at {price}' if price else ''}")
-    estimate = [cents(text) for text in clerk.estimate(row[1:])]
-    if price:
-        effect.compare(estimate[0], security["LT_PRICE"], percent)
-    settle(effect, conn, head, kind, symbol, int(qty), estimate[:6], cash == "cash")
-    effect.lines.append(("Assets by the desk", grouped(amount_text(estimate[6])), "", False))
-    return effect
-
-
-def account_of(conn, account):
-    found = tables.record(conn, "account", account=int(account))
+def found_of(conn, name, field, key):
+    found = tables.record(conn, name, **{name: key})
     if found is None:
-        raise Wrong("ACCOUNT", f"There is no account {account}. Find it by name in the field above.")
-    return found
-
-
-def security_of(conn, symbol):
-    found = tables.record(conn, "security", symbol=symbol)
-    if found is None:
-        raise Wrong("SYMBOL", f"There is no security {symbol}. Find it by name in the field above.")
+        raise Wrong(field, f"There is no {name} {key}. Find it by name in the field above.")
     return found
 
 
 def trade_of(conn, kind, trade):
-    found = tables.record(conn, "trade", trade=int(trade))
-    if found is None:
-        raise Wrong("TRADE", f"There is no trade {trade}. Find it in the field above.")
-    if found["T_ST_ID"] != TRADE_STATUS[kind]:
-        raise Wrong("TRADE", f"Trade {trade} is {words.STATUSES[found['T_ST_ID']].lower()}: a {kind} is for an order that is "
-                             f"{words.STATUSES[TRADE_STATUS[kind]].lower()}.")
+    found, wanted = found_of(conn, "trade", "TRADE", int(trade)), TRADE_STATUS[kind]
+    if found["T_ST_ID"] != wanted:
+        now, then = (words.STATUSES[status].lower() for status in (found["T_ST_ID"], wanted))
+        raise Wrong("TRADE", f"Trade {trade} is {now}: a {kind} is for an order that is {then}.")
     return found
 
 
 def described(found):
-    return (f"{side_of(found['T_TT_ID']).lower()} {grouped(found['T_QTY'])} {found['T_S_SYMB']} ({found['S_NAME']}) for "
-            f"{of_account(found)}, {TYPES[found['T_TT_ID']]} asked {amount_text(found['T_BID_PRICE'])}, "
-            f"last {amount_text(found['LT_PRICE'])}")
+    return (f"{side_of(found['T_TT_ID']).lower()} {grouped(found['T_QTY'])} {found['T_S_SYMB']} "
+            f"({found['S_NAME']}) for {of_account(found)}, {TYPES[found['T_TT_ID']]}, asked "
+            f"{amount_text(found['T_BID_PRICE'])}, last {amount_text(found['LT_PRICE'])}")
+
+
+def order(conn, row, clerk, percent):
+    _, account, kind, symbol, qty, price, cash, end, first, last, taxid = row
+    head = found_of(conn, "account", "ACCOUNT", int(account))
+    security = found_of(conn, "security", "SYMBOL", symbol)
+    at = {"TLB": f"at {price} or below", "TLS": f"at {price} or above",
+          "TSL": f"once the price is {price} or below"}.get(kind, "at the market")
+    what = f"{side_of(kind)} {grouped(qty)} {symbol}"
+    effect = Effect(f"{what} ({security['S_NAME']}) for {of_account(head)}, {at}; last "
+                    f"{security['LAST_PRICE']}. {TYPES[kind]}, settles by {cash}, closes "
+                    f"{words.ENDS[end]}, ordered by {first} {last} ({taxid}).",
+                    f"{what} at {price}" if price else what)
+    estimate = [cents(text) for text in clerk.estimate(row[1:])]
+    if price:
+        effect.compare(estimate[0], security["LT_PRICE"], percent)
+    effect.settle(conn, head, kind, symbol, int(qty), estimate[:6], cash == "cash")
+    return effect
 
 
 def result(conn, row, clerk, percent):
     found, price = trade_of(conn, "result", row[1]), cents(row[2])
-    effect = Effect(f"Book the result of trade {row[1]}: {described(found)}; executed at {row[2]}.", f"Book {row[2]}")
+    effect = Effect(f"Book the result of trade {row[1]}: {described(found)}; executed at {row[2]}.",
+                    f"Book {row[2]}")
     effect.compare(price, found["LT_PRICE"], percent)
-    kind, qty = found["T_TT_ID"], found["T_QTY"]
-    buy, sell = closed_values(conn, found["CA_ID"], found["T_S_SYMB"], kind in words.BUYS, qty, price, found["T_LIFO"])
-    tax = half_up((sell - buy) * (found["RATES"] or 0), 100_000) if sell > buy and found["CA_TAX_ST"] else 0
+    kind, symbol, qty, buy, sell = found["T_TT_ID"], found["T_S_SYMB"], found["T_QTY"], 0, 0
+    is_buy, left = kind in words.BUYS, qty
+    for lot in tables.records(conn, "to_close", account=found["CA_ID"], symbol=symbol,
+                              is_buy=is_buy, is_lifo=found["T_LIFO"]):
+        taken = min(lot["SHARES"], left)
+        left -= taken
+        buy += taken * (price if is_buy else lot["PRICE"])
+        sell += taken * (lot["PRICE"] if is_buy else price)
+    is_taxed = sell > buy and found["CA_TAX_ST"]
+    tax = half_up((sell - buy) * (found["RATES"] or 0), 100_000) if is_taxed else 0
     commission = half_up((found["BAND"] or 0) * qty * price, 10_000)
-    settle(effect, conn, found, kind, found["T_S_SYMB"], qty,
-           (price, buy, sell, tax, commission, found["T_CHRG"]), found["T_IS_CASH"])
+    costs = (price, buy, sell, tax, commission, found["T_CHRG"])
+    effect.settle(conn, found, kind, symbol, qty, costs, found["T_IS_CASH"])
     return effect
 
 
 def feed(conn, row, clerk, percent):
     _, symbol, price, qty = row
-    security = security_of(conn, symbol)
-    effect = Effect(f"A tick: {grouped(qty)} {symbol} ({security['S_NAME']}) were traded at {price} on the market; "
-                    f"last {security['LAST_PRICE']}.", f"Book {price} for {symbol}")
+    security = found_of(conn, "security", "SYMBOL", symbol)
+    effect = Effect(f"A tick: {grouped(qty)} {symbol} ({security['S_NAME']}) were traded at {price} "
+                    f"on the market; last {security['LAST_PRICE']}.", f"Book {price} for {symbol}")
     effect.compare(cents(price), security["LT_PRICE"], percent)
     effect.trades = tables.records(conn, "reached", symbol=symbol, price=cents(price))
-    if effect.trades:
-        count = len(effect.trades)
-        effect.warn(f"It submits {count} pending order{'s' if count > 1 else ''}.", f"submitting {count}")
+    count = len(effect.trades)
+    if count:
+        effect.warn(f"Pending orders that it submits: {count}.", f"submitting {count}")
     return effect
 
 
 def cancel(conn, row, clerk, percent):
     found = trade_of(conn, "cancel", row[1])
-    return Effect(f"Cancel trade {row[1]}: {described(found)}. Its charge and its commission are never charged.",
+    return Effect(f"Cancel trade {row[1]}: {described(found)}. Charge and commission are never charged.",
                   f"Cancel trade {row[1]}")
 
 
 def movement(conn, row, clerk, percent):
     kind, account, amount = row
-    head, sign = account_of(conn, account), 1 if kind == "deposit" else -1
-    name = "Deposit" if sign > 0 else "Withdraw"
-    effect = Effect(f"{name} {grouped(amount)} {'into' if sign > 0 else 'from'} {of_account(head)}.", f"{name} {grouped(amount)}")
+    head, sign = found_of(conn, "account", "ACCOUNT", int(account)), 1 if kind == "deposit" else -1
+    name = f"{'Deposit' if sign > 0 else 'Withdraw'} {grouped(amount)}"
+    effect = Effect(f"{name} {'into' if sign > 0 else 'from'} {of_account(head)}.", name)
     effect.change("Cash", head["CA_BAL"], head["CA_BAL"] + sign * cents(amount), True)
     return effect
 
 
-EFFECTS = {"order": order, "result": result, "feed": feed, "cancel": cancel, "deposit": movement, "withdraw": movement}
+EFFECTS = {"order": order, "result": result, "feed": feed, "cancel": cancel, "deposit": movement,
+           "withdraw": movement}
 
 
 def effect_of(conn, row, clerk, percent):
@@ -212,31 +191,32 @@ def effect_of(conn, row, clerk, percent):
 
 def told(row, reply):
     """What a row did, in words, for its reply."""
-    kind, fields = row[0], reply.fields[1:]
+    kind, fields = row[0], [grouped(text) if words.AMOUNT.fullmatch(text) else text
+                            for text in reply.fields[1:]]
     if kind == "order":
-        state = "submitted: the market has it" if fields[1] == "SBMT" else "pending: it waits for a tick at its price"
-        return f"It is trade {fields[0]}, {state}, at {grouped(fields[2])}."
+        is_submitted = fields[1] == "SBMT"
+        state = "submitted: the market has it" if is_submitted else "pending: it waits for a tick"
+        return f"It is trade {fields[0]}, {state}, at {fields[2]}."
     if kind == "result":
-        numbers = [grouped(fields[at]) for at in (0, 1, 2, 6)]
-        return "Trade {} is completed: commission {}, tax {}, settlement {} due on {}, balance {}.".format(
-            row[1], *numbers[:3], fields[3], numbers[3])
+        return (f"Trade {row[1]} is completed: commission {fields[0]}, tax {fields[1]}, settlement "
+                f"{fields[2]} due on {fields[3]}, balance {fields[6]}.")
     if kind == "feed":
-        return f"The last price is changed. It submitted {', '.join(fields) if fields else 'no order'}."
+        return f"The last price is changed. It submitted {', '.join(fields) or 'no order'}."
     if kind == "cancel":
         return f"Trade {row[1]} is canceled."
-    return f"It is cash row {fields[0]}; the balance of account {row[1]} is {grouped(fields[1])}."
+    return f"It is cash row {fields[0]}; the balance of account {row[1]} is {fields[1]}."
 
 
 def sentence(row):
     """A row in short words, without the books."""
     names = [line["field"].lower() for line in KINDS[row[0]]]
-    return f"{ACTIONS.get(row[0], (row[0],))[0]}: " + ", ".join(f"{name} {text}" for name, text in zip(names, row[1:]) if text)
+    told = ", ".join(f"{name} {text}" for name, text in zip(names, row[1:]) if text)
+    return f"{ACTIONS.get(row[0], row[0])}: {told}"
 
 
 def link_of(row, reply):
-    """The route of what a row changed, and its argument."""
-    kind = row[0]
-    trade = reply.fields[1] if kind == "order" else row[1]
-    if kind in ("order", "result", "cancel"):
-        return "trade", {"trade": trade}
-    return ("security", {"symbol": row[1]}) if kind == "feed" else ("account", {"account": row[1]})
+    """The screen of what a row changed, and its name in the address."""
+    if row[0] in ("order", "result", "cancel"):
+        return "trade", {"trade": reply.fields[1] if row[0] == "order" else row[1]}
+    screen, name = ("security", "symbol") if row[0] == "feed" else ("account", "account")
+    return screen, {name: row[1]}

@@ -44,8 +44,8 @@ class Desk:
         """The record of something that the address names: 404 if it is not there."""
         found = record(self.conn, name, **{NAMES[name]: key})
         if found is None:
-            abort(404, f"This desk has no {name} {key}, as of its stamp "
-                       f"{reporting.time_text(self.snapshot.stamp)}. Look it up in the field above.")
+            stamp = reporting.time_text(self.snapshot.stamp)
+            abort(404, f"This desk has no {name} {key}, as of {stamp}. Find it in the field above.")
         return found
 
     def period(self):
@@ -72,7 +72,7 @@ def today(desk):
     month = words.month_of(day)
     return {
         "submitted": desk.table("submitted", now=desk.now),
-        "pending": desk.table("pending", now=desk.now, symbol=None),
+        "pending": desk.table("pending", now=desk.now, symbol=None, most=20),
         "below": desk.table("below", "below_zero", most=10),
         "due": due, "overdue": [due[each] for each in range(working + 1, day) if each in due],
         "ladder": plots.ladder(rungs, day), "plot": plots.over_time(line, "Cash of all accounts"),
@@ -84,7 +84,7 @@ def today(desk):
 
 
 def newest_copy(folder, name):
-    """The newest nightly copy: its name, its age, and whether it is too old; or why there is none."""
+    """The newest nightly copy: its name, its age, whether it is too old; or why there is none."""
     form = re.compile(re.escape(name) + r"-\d{4}-\d\d-\d\d\.db")
     try:
         found = [path for path in pathlib.Path(folder).iterdir() if form.fullmatch(path.name)]
@@ -120,13 +120,14 @@ def thing(title, *parts, whose=None, pairs=(), actions=(), explained=None):
 
 def holding(desk, account, symbol):
     head, security = desk.one("account", account), desk.one("security", symbol)
-    facts, given = derive.holding_facts(desk.conn, account, symbol), {"account": account, "symbol": symbol}
+    given = {"account": account, "symbol": symbol}
+    facts = derive.facts(desk.conn, "holding", account, symbol)
     names = ("Shares", "Cost basis", "Worth", "Unrealised gain", "Realised gain", "Last price",
              "Purchases", "Sales")
     return thing(
         f"{symbol} {security['S_NAME']} of account {account}",
         ("Lots, the oldest first", desk.table("lots", **given), "No lot is open."),
-        ("Completed trades, the newest first", desk.table("trades", "holding_trades", **given), "None."),
+        ("Completed trades, the newest first", desk.table("trades", "holding_trades", **given), "None"),
         whose=head, pairs=[(name, facts[name]) for name in names],
         explained=("holding", account, symbol))
 
@@ -162,9 +163,9 @@ def market(desk):
 
 def orders(desk):
     status = desk.arguments.get("status") or None
-    chosen = [(words.STATUSES[each] if each else "All", url_for("orders", status=each), each == status)
-              for each in (None, *words.STATUSES)]
-    return thing("Orders", (f"{words.STATUSES.get(status, 'All')}, the newest first",
+    names = {None: "All", **words.STATUSES}
+    chosen = [(name, url_for("orders", status=key), key == status) for key, name in names.items()]
+    return thing("Orders", (f"{names.get(status, 'None')}, the newest first",
                             desk.orders(status=status), "None."), actions=chosen)
 
 
@@ -184,7 +185,7 @@ def brokers(desk):
     return thing(
         "Brokers", ("All brokers", desk.table("brokers"), "None."),
         ("Pending volume by sector", desk.table("volumes"), "No order is pending."),
-        pairs=[("Pending volume of all brokers", total["VOLUME"]), ("Pending orders", total["ORDERS"])])
+        pairs=[("Pending volume of all brokers", total["VOLUME"]), ("Pending", total["ORDERS"])])
 
 
 def batch(desk, batch):
@@ -200,7 +201,8 @@ def trade(desk, trade):
 def find(desk):
     text = desk.arguments.get("q", "").strip()[:200]
     number = int(text) if text.isdecimal() and len(text) < 14 else None
-    return {"text": text, "found": text and desk.all("find", text=text, number=number), "names": NAMES}
+    found = text and desk.all("find", text=text, number=number)
+    return {"text": text, "found": found, "names": NAMES}
 
 
 def reports(desk):
@@ -209,7 +211,8 @@ def reports(desk):
 
 def statement(desk, account):
     """The statement of an account for a month: cash by SQL, the lots as of its end."""
-    head, month = desk.one("account", account), desk.arguments.get("month") or words.month_of(desk.today)
+    head = desk.one("account", account)
+    month = desk.arguments.get("month") or words.month_of(desk.today)
     first, last = words.days_of_month(month)
     given = {"account": account, "first": first, "last": last}
     before = record(desk.conn, "cash_before", account=account, stamp=first * DAY_MS)
@@ -230,7 +233,8 @@ def report(desk, name):
     for option in made.options:
         text = desk.arguments.get(option, "").strip()
         is_day = option in ("day", "from", "to")
-        read = reporting.day_of_text if is_day else str if option == "symbol" else reporting.id_of_text
+        read = str if option == "symbol" else reporting.id_of_text
+        read = reporting.day_of_text if is_day else read
         try:
             options.update({option: read(text)} if text else {})
         except ValueError:
@@ -243,18 +247,6 @@ def report(desk, name):
         options["last"] = options.pop("to", day or reporting.LAST_DAY)
     reporting.choose(desk.conn, **options)
     return {"report": made, "name": name, "rows": desk.table("rows", sql=made.sql)}
-
-
-def facts(desk, form, arguments):
-    """The lines of a screen that `brk explain` has too."""
-    if form == "trade":
-        row = desk.one("trade", *arguments)
-        made = row["T_ST_ID"] == "CMPT"
-        return derive.Trade(desk.conn, row).facts() if made else derive.waiting_facts(row)
-    if form == "account":
-        return derive.account_facts(desk.conn, desk.one("account", *arguments))
-    read = {"holding": derive.holding_facts, "broker": derive.broker_facts}
-    return read[form](desk.conn, *arguments) if form in read else abort(404)
 
 
 # the address of each screen, and what reads it; its template has its name

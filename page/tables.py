@@ -76,7 +76,8 @@ class Part:
         self.rows = [[Cell(head, row[head], row) for head in heads] for row in rows]
         self.kinds = [cell.kind.split()[0] for cell in self.rows[0]] if rows else []
         self.end = self.start + len(rows)
-        self.has_filter, self.is_cut = count > 5 or bool(self.filter), bool(self.start) or self.end < count
+        self.has_filter = count > 5 or bool(self.filter)
+        self.is_cut = bool(self.start) or self.end < count
         self.others = [("back", max(0, self.start - most) or None)] if self.start else []
         self.others += [("more", self.end)] if self.end < count else []
 

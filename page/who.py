@@ -1,8 +1,7 @@
 """Who may use the page: links that open it once, and the keys of the clerks who came by one.
 
-A link is a file whose name is the sum of its secret, made by `python3 page --link`; so whoever may write the
-folder lets clerks in. The first use of a link ends it, and makes a key in its place, which lasts as
-long. The files have sums, no secrets."""
+A link is a file whose name is the sum of its secret. So whoever may write the folder lets clerks in.
+The first use of a link ends it, and makes a key in its place, which lasts as long."""
 
 import hashlib
 import json

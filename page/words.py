@@ -1,4 +1,4 @@
-"""The words and the forms in which numbers, times and names are shown, and functions of SQL for them."""
+"""The words and the forms of numbers, times and names, and functions of SQL for them."""
 
 import datetime
 import re
@@ -14,9 +14,8 @@ PERCENT = re.compile(r"(-?[0-9]+(?:\.[0-9]+)?) %")
 TIME = re.compile(r"([0-9]{4}-[0-9]{2}-[0-9]{2} [0-9]{2}:[0-9]{2}:[0-9]{2})\.[0-9]{3}")
 # what a spreadsheet takes for a formula
 FORMULA = ("=", "+", "@", "-", "\t", "\r")
-HEADS = {"ASKED": "Asked price", "DUE": "Due on", "TYPE": "Type", "N": "Row", "SETTLES_BY": "Settles by",
-         "TAX_ID": "Tax id", "OTHER_VALUE": "Other value", "CASH_ROW": "Cash row",
-         "LAST_PRICE": "Last price", "NOTE": "Note", "BUY_VALUE": "Bought for", "SELL_VALUE": "Sold for"}
+HEADS = {"ASKED": "Asked price", "DUE": "Due on", "N": "Row", "BUY_VALUE": "Bought for",
+         "SELL_VALUE": "Sold for"}
 
 
 def head(name):

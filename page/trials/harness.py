@@ -236,7 +236,7 @@ class Screen:
     """A screen as the trial reads it."""
 
     def __init__(self, status, text, seconds, page):
-        self.status, self.text, self.seconds, self.page = status, text, seconds, page
+        self.status, self.text, self.seconds, self.page, self.is_kept = status, text, seconds, page, False
         self.reader = Reader()
         self.reader.feed(text)
         self.problems, self.pairs, self.links = self.reader.problems, self.reader.pairs, self.reader.links

@@ -47,9 +47,12 @@ class Another:
 
 
 def copied(trial, screen):
-    """A copy of the snapshot that a screen names, for a run of the program."""
-    path = trial.folder / "compared.db"
-    shutil.copyfile(screen.snapshot, path)
+    """A copy of the snapshot that a screen names, for a run of the program: the snapshot itself is deleted once nobody uses it."""
+    first, path = trial.folder / "named.db", trial.folder / "compared.db"
+    if not screen.is_kept:
+        shutil.copyfile(screen.snapshot, first)
+        screen.is_kept = True
+    shutil.copyfile(first, path)
     return path
 
 
