@@ -18,8 +18,8 @@ from .live import NoSnapshot
 
 HEADERS = {
     "Content-Security-Policy": (
-        "default-src 'none'; script-src 'self'; style-src 'self'; img-src 'self'; connect-src 'self'; "
-        "base-uri 'none'; form-action 'self'; frame-ancestors 'none'"),
+        "default-src 'none'; script-src 'self'; style-src 'self'; img-src 'self'; "
+        "connect-src 'self'; base-uri 'none'; form-action 'self'; frame-ancestors 'none'"),
     "X-Content-Type-Options": "nosniff", "X-Frame-Options": "DENY",
     "Referrer-Policy": "no-referrer",
     "Cross-Origin-Resource-Policy": "same-origin", "Cross-Origin-Opener-Policy": "same-origin",
@@ -173,7 +173,7 @@ def add_rows(app, given, snapshots):
         with opened(given, snapshots) as desk:
             def record(name, field):
                 key = values.get(field, "")
-                return tables.record(desk.conn, name, **{name: int(key)}) if key.isdecimal() else None
+                return tables.record(desk.conn, name, **{name: int(key)}) if key.isdecimal() else {}
 
             head = record("account", "ACCOUNT")
             people = desk.all("persons", account=head["CA_ID"]) if head else []
@@ -264,7 +264,7 @@ def add_errors(app):
 
     handled(503, "No snapshot", "This screen tries again by itself. Rows that you sent are safe: a "
             "red line has those without a reply.", NoSnapshot)
-    handled(400, "Not so", "Go back and correct it.", reporting.Refused, ValueError)
+    handled(400, "Not so", "Go back, and correct it.", reporting.Refused, ValueError)
     handled(503, "No journal", "If another program has your journal, end that program. Then load "
             "this anew.", desk_client.ClientError)
     handled(500, None, "Begin with Today, or find what you look for above.", HTTPException)

@@ -20,7 +20,8 @@ class Door(desk_client.Http):
         try:
             word, value = self.once(target, texts)
         except desk_client.NotReached as error:
-            raise desk_client.NoReply(f"The desk was not reached ({error}): nothing was booked.") from error
+            told = f"The desk was not reached ({error}): nothing was booked."
+            raise desk_client.NoReply(told) from error
         except (http.client.HTTPException, OSError) as error:
             why = str(error) or type(error).__name__
             told = f"No reply came ({why}): it is not known if this was booked."
@@ -119,7 +120,7 @@ class Clerks:
         if not mark.exists():
             mark.write_text(desk, encoding="utf-8")
         elif mark.read_text(encoding="utf-8") != desk:
-            raise ValueError(f"{self.folder} has the journals of {mark.read_text(encoding='utf-8')} and "
+            raise ValueError(f"{self.folder} has the journals of {mark.read_text(encoding='utf-8')}, "
                              f"not of {desk}: name another folder by --journals")
 
     def named(self, initials):

@@ -34,8 +34,8 @@ class Snapshot:
         with contextlib.closing(self.connect()) as conn:
             schema, last = conn.execute("SELECT D_SCHEMA, D_LAST FROM DESK").fetchone()
         if schema != desk_books.SCHEMA:
-            raise NoSnapshot(f"it is of schema {schema}, and this page reads {desk_books.SCHEMA}: brk "
-                             "audit upgrades an older file, a newer one needs a newer page")
+            raise NoSnapshot(f"it is of schema {schema}, and not {desk_books.SCHEMA}: brk audit "
+                             "upgrades an older file, a newer one needs a newer page")
         self.schema, self.stamp = schema, last or 0
 
     @property
@@ -89,7 +89,7 @@ class Snapshots:
         is_fresh = found and (self.is_copy or time.monotonic() - found.begun < FRESH_SECONDS)
         taken = found if is_fresh and (self.is_copy or found.stamp >= least) else self.take()
         if taken.stamp < least and not self.is_copy:
-            raise NoSnapshot(f"the snapshot of {self.file} lacks your last row, of the stamp {least}. "
+            raise NoSnapshot(f"the snapshot of {self.file} lacks your row of the stamp {least}. "
                              "Is the door that of another desk?")
         return taken
 

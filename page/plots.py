@@ -22,8 +22,8 @@ def line(kind, x1, y1, x2, y2):
 
 def svg(label, parts, height=HEIGHT):
     title = element("title", escape(label))
-    return element("svg", title + Markup("").join(parts), viewBox=f"0 0 {WIDTH} {height}", role="img",
-                   class_="plot")
+    return element("svg", title + Markup("").join(parts), class_="plot", role="img",
+                   viewBox=f"0 0 {WIDTH} {height}")
 
 
 def steps_of(low, high):
@@ -74,7 +74,8 @@ def ladder(rungs, today):
     for place, (day, received, paid) in enumerate(rungs):
         y, kind = 6 + 26 * place, "now" if day == today else "day"
         parts.append(element("text", day_text(day)[5:], x=0, y=y + 15, class_=kind))
-        for cents, name, end in ((paid, "paid", MIDDLE - LONGEST - 6), (received, "received", WIDTH)):
+        for cents, name, end in ((paid, "paid", MIDDLE - LONGEST - 6),
+                                 (received, "received", WIDTH)):
             length = round(abs(cents) * LONGEST / most, 1)
             begin = MIDDLE - length if name == "paid" else MIDDLE
             parts.append(element("rect", class_=name, x=begin, y=y, width=length, height=20,

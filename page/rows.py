@@ -63,7 +63,8 @@ class Effect:
 
     def compare(self, price, last, percent):
         """Says how far a price is from the last one, and warns beyond so many percent."""
-        old, new, is_far = amount_text(last), amount_text(price), abs(price - last) * 100 > percent * last
+        old, new = amount_text(last), amount_text(price)
+        is_far = abs(price - last) * 100 > percent * last
         self.lines.append(("Price after the last price", grouped(old), grouped(new), is_far))
         if is_far:
             side = "above" if price > last else "below"
@@ -161,14 +162,14 @@ def feed(conn, row, clerk, percent):
     effect.trades = tables.records(conn, "reached", symbol=symbol, price=cents(price))
     count = len(effect.trades)
     if count:
-        effect.warn(f"Pending orders that it submits: {count}.", f"submitting {count}")
+        effect.warn(f"It submits {count} of the pending orders.", f"submitting {count}")
     return effect
 
 
 def cancel(conn, row, clerk, percent):
     found = trade_of(conn, "cancel", row[1])
-    return Effect(f"Cancel trade {row[1]}: {described(found)}. Charge and commission are never charged.",
-                  f"Cancel trade {row[1]}")
+    name = f"Cancel trade {row[1]}"
+    return Effect(f"{name}: {described(found)}. Its charge and commission are never charged.", name)
 
 
 def movement(conn, row, clerk, percent):

@@ -127,7 +127,8 @@ def holding(desk, account, symbol):
     return thing(
         f"{symbol} {security['S_NAME']} of account {account}",
         ("Lots, the oldest first", desk.table("lots", **given), "No lot is open."),
-        ("Completed trades, the newest first", desk.table("trades", "holding_trades", **given), "None"),
+        ("Completed trades, the newest first",
+         desk.table("trades", "holding_trades", **given), "None."),
         whose=head, pairs=[(name, facts[name]) for name in names],
         explained=("holding", account, symbol))
 

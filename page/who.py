@@ -1,6 +1,6 @@
 """Who may use the page: links that open it once, and the keys of the clerks who came by one.
 
-A link is a file whose name is the sum of its secret. So whoever may write the folder lets clerks in.
+A link is a file whose name is the sum of its secret: whoever may write the folder lets clerks in.
 The first use of a link ends it, and makes a key in its place, which lasts as long."""
 
 import hashlib

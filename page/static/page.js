@@ -1,27 +1,31 @@
-// Asks for each screen with the clerk's key, and moves what moves: ages, renewals, sending, arrows in tables.
+// Asks for each screen with the clerk's key, and does what moves: ages, renewals, sending, arrows.
 "use strict";
 
 const KEY = "page-key";
-const find = (selector, within = document) => [...within.querySelectorAll(selector)];
+const one = (selector) => document.querySelector(selector);
+const all = (selector, within = document) => [...within.querySelectorAll(selector)];
+const parsed = (text) => new DOMParser().parseFromString(text, "text/html");
+const rowName = (row) => row.closest("section").id + row.dataset.key;
+let renewal;
 
 function tell(text) {
-  const line = document.querySelector("#trouble") ?? document.body.appendChild(document.createElement("p"));
+  const line = one("#trouble") ?? document.body.appendChild(document.createElement("p"));
   line.hidden = false;
   line.textContent = text;
 }
 
-// Asks the page's program with the key; none but this page's scripts can read it.
-function ask(url, more = {}) {
-  return fetch(url, { ...more, headers: { "X-Page-Key": localStorage.getItem(KEY) ?? "" } });
-}
+// Only scripts of this page can read the key.
+const ask = (url, more = {}) =>
+  fetch(url, { ...more, headers: { "X-Page-Key": localStorage.getItem(KEY) ?? "" } });
 
 async function show(url, more) {
   const reply = await ask(url, more);
   if (reply.status === 401) {
-    tell("This page opens by a link of its own for each clerk, which lasts a working day: `python3 page --link INITIALS` prints it.");
+    tell("This page opens by a link of its own for each clerk, which lasts a working day: "
+      + "`python3 page --link INITIALS` prints it.");
     return;
   }
-  const made = new DOMParser().parseFromString(await reply.text(), "text/html");
+  const made = parsed(await reply.text());
   document.title = made.title;
   document.body.replaceWith(made.body);
   begin();
@@ -29,31 +33,30 @@ async function show(url, more) {
 
 // Opens a link: its secret is used once, and leaves the address.
 async function enter() {
-  const reply = await fetch("/enter", { method: "POST", body: new URLSearchParams({ secret: location.hash.slice(1) }) });
+  const body = new URLSearchParams({ secret: location.hash.slice(1) });
+  const reply = await fetch("/enter", { method: "POST", body });
   const told = await reply.json();
   history.replaceState(null, "", reply.ok ? "/" : "/enter");
-  if (!reply.ok) {
-    tell(told.error);
-    return;
-  }
+  if (!reply.ok) return tell(told.error);
   localStorage.setItem(KEY, told.key);
-  await show("/");
+  return show("/");
 }
 
-// Sends a form that books: once a click, with a word about it while it lasts.
+// Sends a form that books, with a word about it while it lasts.
 async function send(form) {
   const button = form.querySelector("button"), begun = Date.now();
-  find("button").forEach((each) => { each.disabled = true; });
-  const clock = setInterval(() => {
-    button.textContent = `Sending, ${Math.round((Date.now() - begun) / 1000)} s`;
-  }, 250);
-  button.textContent = "Sending";
+  const count = () => {
+    button.textContent = `Sending, ${Math.floor((Date.now() - begun) / 1000)} s`;
+  };
+  const body = new URLSearchParams(new FormData(form)), clock = setInterval(count, 250);
+  all("button").forEach((each) => { each.disabled = true; });
+  count();
   try {
-    await show(form.action, { method: "POST", body: new URLSearchParams(new FormData(form)) });
-    document.querySelector("h1")?.focus();
+    await show(form.action, { method: "POST", body });
+    one("h1")?.focus();
   } catch {
-    tell("The page's program did not reply, so it is not known if this was booked. Load this anew: a red line has the row"
-      + " if it was stored without a reply; if there is none, look at the account before you type it again.");
+    tell("The page's program did not reply, so it is not known if this was booked. Load this anew: "
+      + "a red line has the row if it has no reply. If there is none, look before you type it again.");
     button.textContent = "Not known";
   } finally {
     clearInterval(clock);
@@ -61,66 +64,68 @@ async function send(form) {
 }
 
 async function download(link) {
-  const blob = await (await ask(link.href)).blob(), made = document.createElement("a");
-  made.href = URL.createObjectURL(blob);
-  made.download = `${location.pathname.slice(1).replaceAll("/", "-") || "today"}-${new URL(link.href).searchParams.get("csv")}.csv`;
+  const made = document.createElement("a"), key = new URL(link.href).searchParams.get("csv");
+  made.href = URL.createObjectURL(await (await ask(link.href)).blob());
+  made.download = `${location.pathname.slice(1).replaceAll("/", "-") || "today"}-${key}.csv`;
   made.click();
   setTimeout(() => URL.revokeObjectURL(made.href), 10000);
 }
 
 // Asks for this screen again, and marks the rows that were not on it.
 async function renew() {
-  if (document.hidden || document.activeElement?.matches("main input, main select")) return;
+  const here = document.activeElement, at = here?.getAttribute("href");
+  if (document.hidden || here?.matches("main input, main select")) return;
   try {
-    const known = new Set(find("[data-key]").map((row) => row.closest("section").id + row.dataset.key));
-    const at = document.activeElement?.getAttribute("href");
-    const made = new DOMParser().parseFromString(await (await ask(location.href)).text(), "text/html");
-    for (const part of ["main", ".where", "#lines"]) {
-      document.querySelector(part).replaceWith(made.querySelector(part));
-    }
-    find("[data-key]").filter((row) => !known.has(row.closest("section").id + row.dataset.key))
-      .forEach((row) => { row.classList.add("new"); row.title = "new"; });
-    if (at) find(`[href="${CSS.escape(at)}"]`)[0]?.focus({ preventScroll: true });
-    fill();
+    const known = new Set(all("[data-key]").map(rowName));
+    const made = parsed(await (await ask(location.href)).text());
+    for (const part of ["main", ".where", "#lines"]) one(part).replaceWith(made.querySelector(part));
+    const fresh = all("[data-key]").filter((row) => !known.has(rowName(row)));
+    fresh.forEach((row) => row.classList.add("new"));
+    if (at) one(`[href="${CSS.escape(at)}"]`)?.focus({ preventScroll: true });
   } catch {
-    tell("The page's program does not reply: what you see is of the time in the head. It is asked again by itself.");
+    tell("The page's program does not reply: this is of the time in the head. It is asked again.");
   }
 }
 
-// The texts of the program come after the screen.
-function fill() {
-  find("[data-explained]").forEach(async (part) => {
-    const reply = await ask(part.dataset.explained);
-    part.innerHTML = reply.ok ? await reply.text() : "<p class='line amber'>brk explain gave no text: load this anew.</p>";
-    part.dataset.done = "";
-  });
+// What the program says of a screen comes after it.
+async function explain(part) {
+  const reply = await ask(part.dataset.explained);
+  part.innerHTML = reply.ok ? await reply.text()
+    : "<p class='line amber'>brk explain gave no text: load this anew.</p>";
 }
 
-let renewal;
-
 function begin() {
-  clearInterval(renewal);
   const seconds = Number(document.body.dataset.renew);
+  clearInterval(renewal);
   if (seconds) renewal = setInterval(renew, seconds * 1000);
-  fill();
+  all("[data-explained]").forEach(explain);
   scrollTo(0, history.state?.y ?? 0);
   if (location.hash) document.getElementById(location.hash.slice(1))?.scrollIntoView();
 }
 
-setInterval(() => {
-  find(".age[data-read]").forEach((age) => {
-    const seconds = Math.max(0, Math.round(Date.now() / 1000 - Number(age.dataset.read)));
-    age.textContent = seconds < 120 ? `${seconds} s ago` : `${Math.round(seconds / 60)} min ago`;
-    age.classList.toggle("old", seconds > 60);
-  });
-}, 1000);
+// Arrows, Home and End lead from link to link of a table or a list.
+function move(event, here, whole, step) {
+  const rows = all("tr, li", whole).map((row) => all("a", row)).filter((links) => links.length);
+  const row = rows.findIndex((links) => links.includes(here)), column = rows[row].indexOf(here);
+  const to = (at, length) => Math.min(Math.max(at + step, 0), length - 1);
+  const isAcross = event.key === "ArrowRight" || event.key === "ArrowLeft";
+  const links = isAcross ? rows[row] : rows[to(row, rows.length)];
+  const next = links[isAcross ? to(column, links.length) : Math.min(column, links.length - 1)];
+  event.preventDefault();
+  here.tabIndex = -1;
+  next.tabIndex = 0;
+  next.focus();
+}
 
+setInterval(() => all(".age[data-read]").forEach((age) => {
+  const seconds = Math.max(0, Math.round(Date.now() / 1000 - Number(age.dataset.read)));
+  age.textContent = seconds < 120 ? `${seconds} s ago` : `${Math.round(seconds / 60)} min ago`;
+}), 1000);
 addEventListener("pagehide", () => history.replaceState({ y: scrollY }, ""));
 addEventListener("submit", (event) => {
-  if (event.target.method === "post") {
-    event.preventDefault();
-    send(event.target);
-  }
+  if (event.target.method !== "post") return;
+  event.preventDefault();
+  send(event.target);
 });
 addEventListener("click", (event) => {
   const link = event.target.closest("a[download]");
@@ -130,30 +135,17 @@ addEventListener("click", (event) => {
   }
   if (event.target.closest("[data-print]")) print();
 });
-// "/" leads to the field of the head; arrows lead from link to link of a table or a list
 addEventListener("keydown", (event) => {
-  const here = document.activeElement;
-  if (event.key === "/" && !here?.matches("input, select, textarea")) {
+  const here = document.activeElement, whole = here?.closest("a") && here.closest("table, ul.found");
+  const steps = { ArrowDown: 1, ArrowUp: -1, ArrowRight: 1, ArrowLeft: -1, Home: -1e9, End: 1e9 };
+  if (event.key === "/" && !here?.matches("input, select")) {
     event.preventDefault();
-    document.querySelector(".find input")?.select();
+    one(".find input")?.select();
   }
-  const whole = here?.closest("a") && here.closest("table, ul.found");
-  const step = { ArrowDown: 1, ArrowUp: -1, ArrowRight: 1, ArrowLeft: -1, Home: -1e9, End: 1e9 }[event.key];
-  if (!whole || !step) return;
-  const rows = find("tr, li", whole).map((row) => find("a", row)).filter((links) => links.length);
-  const row = rows.findIndex((links) => links.includes(here)), column = rows[row].indexOf(here);
-  const isAcross = event.key === "ArrowRight" || event.key === "ArrowLeft";
-  const to = (length, at) => Math.min(Math.max(at + step, 0), length - 1);
-  const links = isAcross ? rows[row] : rows[to(rows.length, row)];
-  const next = isAcross ? links[to(links.length, column)] : links[Math.min(column, links.length - 1)];
-  event.preventDefault();
-  here.tabIndex = -1;
-  next.tabIndex = 0;
-  next.focus();
+  if (whole && event.key in steps) move(event, here, whole, steps[event.key]);
 });
-
 if (location.pathname === "/enter" && location.hash) {
   enter();
 } else {
-  show(location.href).catch(() => tell("The page's program does not reply: start it, then load this anew."));
+  show(location.href).catch(() => tell("The page's program does not reply: start it, then load this."));
 }
