@@ -268,5 +268,5 @@ def add_errors(app):
     handled(503, "No journal", "If another program has your journal, end that program. Then load "
             "this anew.", desk_client.ClientError)
     handled(500, None, "Begin with Today, or find what you look for above.", HTTPException)
-    handled(500, "A fault of the page", "Nothing was booked by this. Its program printed more: keep "
-            "that for whoever looks after the page.", Exception)
+    handled(500, "A fault of the page", "Nothing was booked by this. Give what its program printed to "
+            "whoever looks after it.", Exception)

@@ -119,9 +119,9 @@ class Clerks:
         mark = self.folder / "desk"
         if not mark.exists():
             mark.write_text(desk, encoding="utf-8")
-        elif mark.read_text(encoding="utf-8") != desk:
-            raise ValueError(f"{self.folder} has the journals of {mark.read_text(encoding='utf-8')}, "
-                             f"not of {desk}: name another folder by --journals")
+        other = mark.read_text(encoding="utf-8")
+        if other != desk:
+            raise ValueError(f"{folder} has the journals of {other}: name another one by --journals")
 
     def named(self, initials):
         with self.lock:

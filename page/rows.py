@@ -156,8 +156,8 @@ def result(conn, row, clerk, percent):
 def feed(conn, row, clerk, percent):
     _, symbol, price, qty = row
     security = found_of(conn, "security", "SYMBOL", symbol)
-    effect = Effect(f"A tick: {grouped(qty)} {symbol} ({security['S_NAME']}) were traded at {price} "
-                    f"on the market; last {security['LAST_PRICE']}.", f"Book {price} for {symbol}")
+    effect = Effect(f"A tick: {grouped(qty)} {symbol} ({security['S_NAME']}) were traded at {price}; "
+                    f"last {security['LAST_PRICE']}.", f"Book {price} for {symbol}")
     effect.compare(cents(price), security["LT_PRICE"], percent)
     effect.trades = tables.records(conn, "reached", symbol=symbol, price=cents(price))
     count = len(effect.trades)

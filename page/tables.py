@@ -35,12 +35,6 @@ ACTIONS = {"result": ("Result", "TRADE"), "cancel": ("Cancel", "TRADE"), "feed":
 CODES = {"TYPE": words.TYPES, "STATUS": words.STATUSES}
 
 
-class Action:
-    def __init__(self, kind, row):
-        self.label, field = ACTIONS[kind]
-        self.link = url_for("row", kind=kind, **{field: row[field]})
-
-
 class Cell:
     """A cell as it is shown: its text, its class, what it leads to, and the value in full."""
 
@@ -49,9 +43,12 @@ class Cell:
         self.text = "" if value is None else str(value)
         self.kind = "note" if column in NOTES else "text"
         if column == "ACTION":
-            self.kind, self.action = "action", Action(value, row) if value else None
+            self.kind = "action"
+            self.text, field = ACTIONS.get(value, ("", None))
+            self.link = field and url_for("row", kind=value, **{field: row[field]})
         elif column in IDS:
-            self.kind, self.link = "id", LINKS.get(column) if self.text else None
+            self.kind, (screen, name) = "id", LINKS.get(column, (None, None))
+            self.link = screen and self.text and url_for(screen, **{name: value})
         elif isinstance(value, int) or words.AMOUNT.fullmatch(self.text):
             self.kind = "money" if "." in self.text else "number"
             self.text = words.grouped(value)

@@ -55,8 +55,8 @@ async function send(form) {
     await show(form.action, { method: "POST", body });
     one("h1")?.focus();
   } catch {
-    tell("The page's program did not reply, so it is not known if this was booked. Load this anew: "
-      + "a red line has the row if it has no reply. If there is none, look before you type it again.");
+    tell("The page's program did not reply, so it is not known if this was booked. Load this anew. "
+      + "A red line has the row if it has no reply; if there is none, look before you type it again.");
     button.textContent = "Not known";
   } finally {
     clearInterval(clock);
@@ -78,7 +78,7 @@ async function renew() {
   try {
     const known = new Set(all("[data-key]").map(rowName));
     const made = parsed(await (await ask(location.href)).text());
-    for (const part of ["main", ".where", "#lines"]) one(part).replaceWith(made.querySelector(part));
+    ["main", ".where", "#lines"].forEach((part) => one(part).replaceWith(made.querySelector(part)));
     const fresh = all("[data-key]").filter((row) => !known.has(rowName(row)));
     fresh.forEach((row) => row.classList.add("new"));
     if (at) one(`[href="${CSS.escape(at)}"]`)?.focus({ preventScroll: true });
@@ -136,7 +136,7 @@ addEventListener("click", (event) => {
   if (event.target.closest("[data-print]")) print();
 });
 addEventListener("keydown", (event) => {
-  const here = document.activeElement, whole = here?.closest("a") && here.closest("table, ul.found");
+  const here = document.activeElement, whole = here?.matches("a") && here.closest("table, ul");
   const steps = { ArrowDown: 1, ArrowUp: -1, ArrowRight: 1, ArrowLeft: -1, Home: -1e9, End: 1e9 };
   if (event.key === "/" && !here?.matches("input, select")) {
     event.preventDefault();
@@ -147,5 +147,5 @@ addEventListener("keydown", (event) => {
 if (location.pathname === "/enter" && location.hash) {
   enter();
 } else {
-  show(location.href).catch(() => tell("The page's program does not reply: start it, then load this."));
+  show(location.href).catch(() => tell("The page's program does not reply: start it, and reload."));
 }

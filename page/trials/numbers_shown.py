@@ -187,7 +187,7 @@ def today(trial):
         wanted = printed(trial, screen, section)
         ids = {row[0] for row in wanted[1:]}
         shown = screen.rows(section)
-        trial.tell(f"today: {section}", {row["Trade"] for row in shown} <= ids and len(shown) == min(50, len(ids)))
+        trial.tell(f"today: {section}", {row["Trade"] for row in shown} <= ids and len(shown) == min(20 if section == "pending" else 50, len(ids)))
         heads = wanted[0]
         known = {row[0]: row for row in wanted[1:]}
         for row in shown:
