@@ -8,7 +8,7 @@
 
 With --db it reads the file of a desk that runs, and sends rows to the desk's door. With --copy it
 shows a copy and books nothing. --link prints a link that opens the page once, for the clerk with
-these one to four capital letters; --end ends what the clerk has. docs/PAGE.md has more."""
+these one to four capital letters; --end ends what the clerk has (docs/PAGE.md)."""
 
 import argparse
 import os
@@ -21,8 +21,6 @@ import tempfile
 sys.dont_write_bytecode = True
 HERE = pathlib.Path(__file__).resolve().parent
 sys.path[:0] = [str(HERE.parent / name) for name in (".", "examples", "examples/reports")]
-
-COLOURS = ("blue", "green", "violet", "brown", "grey")
 
 
 def arguments():
@@ -38,7 +36,7 @@ def arguments():
         words.add_argument(f"--{name}", metavar="FILE")
     for name in ("runtime", "journals", "copies"):
         words.add_argument(f"--{name}", metavar="FOLDER")
-    words.add_argument("--colour", choices=COLOURS, default="blue")
+    words.add_argument("--colour", default="blue", metavar="NAME")
     words.add_argument("--desk-clock", action="store_true")
     return words.parse_args()
 
@@ -55,10 +53,9 @@ def let_in(given, who):
         return fail(f"initials are one to four capital letters: {initials}")
     try:
         address, doors = (folder / "address").read_text(encoding="utf-8"), who.Who(folder)
-        if given.end:
-            print(f"{doors.end(initials)} links and keys of {initials} are ended")
-        else:
-            print(f"{address}enter#{doors.invite(initials, given.hours)}")
+        ended = doors.end(initials)
+        print(f"{ended} links and keys of {initials} are ended" if given.end
+              else f"{address}enter#{doors.invite(initials, given.hours)}")
     except OSError as error:
         return fail(f"{folder}: {error.strerror}: start the page first, and run this as its user")
     return 0

@@ -25,7 +25,7 @@ HEADERS = {
     "Cross-Origin-Resource-Policy": "same-origin", "Cross-Origin-Opener-Policy": "same-origin",
     "Cache-Control": "no-store",
 }
-KEY = "X-Page-Key"
+KEY, PLAIN = "X-Page-Key", {"Content-Type": "text/plain; charset=utf-8"}
 NOTHING_BOOKED = "This page shows a copy: nothing can be booked on it."
 
 
@@ -65,30 +65,25 @@ def url_with(**changes):
     return url_for(request.endpoint, **request.view_args, **chosen)
 
 
-def refusal(status, text):
-    return Response(f"{text}\n", status, mimetype="text/plain")
-
-
 def add_guard(app, given, clerks, who):
     @app.before_request
     def guard():
-        """Nobody but a clerk's own browser reads or books: each request has a key, which no other
-        site can read. The first request for an address has none, and gets a frame without data,
-        whose script asks again with the key."""
+        """Each request has a key, which no other site can read. The first one for an address has
+        none, and gets a frame without data, whose script asks again with the key."""
         g.clerk, key, is_get = None, request.headers.get(KEY), request.method == "GET"
         site, origin = request.headers.get("Sec-Fetch-Site", "none"), request.headers.get("Origin")
         if request.host != given.host:
-            return refusal(403, f"This page is http://{given.host}/")
+            return (f"This page is http://{given.host}/\n", 403, PLAIN)
         is_ours = site in ("none", "same-origin") and origin in (None, f"http://{given.host}")
         if not is_ours and (key or not is_get):
-            return refusal(403, "Another site sent this request.")
+            return ("Another site sent this request.\n", 403, PLAIN)
         if request.endpoint in ("enter", "static"):
             return None
         if key is None and is_get:
             return render_template("frame.html")
         g.initials = who.clerk(key or "")
         if not g.initials:
-            return refusal(401, "no key")
+            return ("no key\n", 401, PLAIN)
         g.clerk = clerks.named(g.initials) if clerks else None
         return None
 
@@ -163,7 +158,8 @@ def page(template, desk=None, status=200, **told):
         now, stamp = time.time(), desk.snapshot.stamp
         told.update(stamp=reporting.time_text(stamp), read=desk.snapshot.read,
                     read_text=words.moment(desk.snapshot.read), machine=words.moment(now),
-                    apart=words.ago(int(now * 1000) - stamp), is_ahead=stamp > now * 1000 + 60_000)
+                    apart=words.age(abs(int(now * 1000) - stamp)),
+                    is_ahead=stamp > now * 1000 + 60_000)
     return render_template(template, **told), status
 
 
@@ -196,11 +192,9 @@ def add_rows(app, given, snapshots):
             fields = rows.fields_of(kind, values)
             with opened(given, snapshots) as desk:
                 percent = whole_setting("BRK_PRICE_PERCENT", 10)
-                effect = rows.effect_of(desk.conn, fields, g.clerk, percent)
-                same = g.clerk.same(fields)
-                if same:
-                    effect.warn("The same row was sent within the last ten minutes, in the batch "
-                                f"{same[-1]}.", "once more")
+                effect = rows.EFFECTS[kind](desk.conn, fields, g.clerk, percent)
+                for same in g.clerk.same(fields)[-1:]:
+                    effect.warn(f"Batch {same} has the same row, not ten minutes old.", "once more")
                 return page("step.html", desk, kind=kind, fields=fields, effect=effect,
                             batch=g.clerk.new_batch())
         except rows.Wrong as error:
@@ -268,5 +262,5 @@ def add_errors(app):
     handled(503, "No journal", "If another program has your journal, end that program. Then load "
             "this anew.", desk_client.ClientError)
     handled(500, None, "Begin with Today, or find what you look for above.", HTTPException)
-    handled(500, "A fault of the page", "Nothing was booked by this. Give what its program printed to "
-            "whoever looks after it.", Exception)
+    handled(500, "A fault of the page", "Nothing was booked. Its program printed what was wrong.",
+            Exception)

@@ -45,14 +45,11 @@ class Clerk:
         self.initials, self.lock, self.sending = initials, threading.Lock(), None
         path = pathlib.Path(folder) / f"{initials}.journal"
         self.client = desk_client.Client(path, Door(port, key=key) if key else Door(port))
-
-    @property
-    def journal(self):
-        return self.client.journal
+        self.journal = self.client.journal
 
     def new_batch(self):
-        moment = time.strftime("%Y%m%d-%H%M%S", time.gmtime())
-        return f"PAGE-{self.initials}-{moment}-{secrets.token_hex(4)}"
+        now = time.strftime("%Y%m%d-%H%M%S", time.gmtime())
+        return f"PAGE-{self.initials}-{now}-{secrets.token_hex(4)}"
 
     @property
     def stamp(self):
@@ -121,7 +118,7 @@ class Clerks:
             mark.write_text(desk, encoding="utf-8")
         other = mark.read_text(encoding="utf-8")
         if other != desk:
-            raise ValueError(f"{folder} has the journals of {other}: name another one by --journals")
+            raise ValueError(f"{folder} has the journals of {other}: take another by --journals")
 
     def named(self, initials):
         with self.lock:

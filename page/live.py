@@ -28,19 +28,14 @@ class Snapshot:
     """A copy of a desk's file as of a moment, in a folder of its own. SQL only reads it."""
 
     def __init__(self, folder, read):
-        self.folder, self.path, self.read = folder, folder / "desk.db", read
-        self.users, self.used = 0, time.monotonic()
-        self.lock = threading.Lock()
+        self.folder, self.name, self.path = folder, folder.name, folder / "desk.db"
+        self.read, self.users, self.used, self.lock = read, 0, time.monotonic(), threading.Lock()
         with contextlib.closing(self.connect()) as conn:
             schema, last = conn.execute("SELECT D_SCHEMA, D_LAST FROM DESK").fetchone()
         if schema != desk_books.SCHEMA:
             raise NoSnapshot(f"it is of schema {schema}, and not {desk_books.SCHEMA}: brk audit "
                              "upgrades an older file, a newer one needs a newer page")
         self.schema, self.stamp = schema, last or 0
-
-    @property
-    def name(self):
-        return self.folder.name
 
     def connect(self):
         conn = sqlite3.connect(f"file:{self.path}?mode=ro&immutable=1", uri=True)

@@ -10,9 +10,8 @@ MIDDLE, LONGEST = 290, 85
 
 
 def element(tag, content="", **attributes):
-    """An element; a mark at the end of a name is dropped, others are hyphens."""
-    texts = [f' {name.rstrip("_").replace("_", "-")}="{escape(value)}"'
-             for name, value in attributes.items()]
+    names = [name.rstrip("_").replace("_", "-") for name in attributes]
+    texts = [f' {name}="{escape(value)}"' for name, value in zip(names, attributes.values())]
     return Markup(f"<{tag}{''.join(texts)}>{content}</{tag}>")
 
 

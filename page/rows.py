@@ -156,8 +156,8 @@ def result(conn, row, clerk, percent):
 def feed(conn, row, clerk, percent):
     _, symbol, price, qty = row
     security = found_of(conn, "security", "SYMBOL", symbol)
-    effect = Effect(f"A tick: {grouped(qty)} {symbol} ({security['S_NAME']}) were traded at {price}; "
-                    f"last {security['LAST_PRICE']}.", f"Book {price} for {symbol}")
+    effect = Effect(f"A tick: {grouped(qty)} {symbol} ({security['S_NAME']}) were traded at "
+                    f"{price}; last {security['LAST_PRICE']}.", f"Book {price} for {symbol}")
     effect.compare(cents(price), security["LT_PRICE"], percent)
     effect.trades = tables.records(conn, "reached", symbol=symbol, price=cents(price))
     count = len(effect.trades)
@@ -181,13 +181,9 @@ def movement(conn, row, clerk, percent):
     return effect
 
 
+# what a row would do, by the snapshot; of an order also by the estimate of the desk
 EFFECTS = {"order": order, "result": result, "feed": feed, "cancel": cancel, "deposit": movement,
            "withdraw": movement}
-
-
-def effect_of(conn, row, clerk, percent):
-    """What a row would do, by the snapshot; of an order also by the estimate of the desk."""
-    return EFFECTS[row[0]](conn, row, clerk, percent)
 
 
 def told(row, reply):

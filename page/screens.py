@@ -102,7 +102,9 @@ def account(desk, account):
     points = points and [(points[0][0] - 1, head["CA_OPEN"]), *points]
     waiting = f"SELECT * FROM ({tables.QUERIES['orders'].sql}) WHERE STATUS IN ('SBMT', 'PNDG')"
     return {
-        "head": head, "persons": desk.all("persons", account=account),
+        "head": head, "persons": ", ".join(
+            f"{each['FIRST']} {each['LAST']} ({each['TAX_ID']}), {each['WHY']}"
+            for each in desk.all("persons", account=account)),
         "positions": desk.table("positions", account=account),
         "open": desk.orders("open", account, sql=waiting),
         "cash": desk.table("cash", account=account, **days),
@@ -196,18 +198,22 @@ def batch(desk, batch):
 def trade(desk, trade):
     row = desk.one("trade", trade)
     return {"row": row, "made": derive.Trade(desk.conn, row) if row["T_ST_ID"] == "CMPT" else None,
+            "lots": desk.table("lots", "trade_lots", trade=trade),
             "statuses": desk.table("statuses", trade=trade), "side": rows.side_of(row["T_TT_ID"])}
 
 
 def find(desk):
     text = desk.arguments.get("q", "").strip()[:200]
     number = int(text) if text.isdecimal() and len(text) < 14 else None
-    found = text and desk.all("find", text=text, number=number)
-    return {"text": text, "found": found, "names": NAMES}
+    found = desk.all("find", text=text, number=number) if text else []
+    return {"title": f"Found for “{text}”", "text": text, "template": "list.html", "links": [
+        (f"{kind.capitalize()} {key}", url_for(kind, **{NAMES[kind]: key}), f"{name}; {more}")
+        for _, kind, key, name, more in found]}
 
 
 def reports(desk):
-    return {}
+    return {"title": "Reports", "template": "list.html", "links": [
+        (name, url_for("report", name=name), made.about) for name, made in tables.REPORTS.items()]}
 
 
 def statement(desk, account):

@@ -11,12 +11,11 @@ from flask import url_for
 
 from . import words
 
-FOLDER = pathlib.Path(__file__).resolve().parent / "queries"
-ROWS = 50
+HERE, ROWS = pathlib.Path(__file__).resolve().parent, 50
 LOADER = importlib.machinery.SourceFileLoader("report", str(reporting.HERE / "report"))
 report = importlib.util.module_from_spec(importlib.util.spec_from_loader("report", LOADER))
 LOADER.exec_module(report)
-QUERIES = {path.stem: report.Report(path) for path in FOLDER.glob("*.sql")}
+QUERIES = {path.stem: report.Report(path) for path in HERE.glob("queries/*.sql")}
 for query in QUERIES.values():
     query.sql = query.sql.rstrip()
 REPORTS = report.reports()
@@ -131,10 +130,8 @@ def quoted(name):
 
 
 def records(conn, name, **given):
-    """The rows of a query, by the names of its columns."""
     return conn.execute(QUERIES[name].sql, given).fetchall()
 
 
 def record(conn, name, **given):
-    """The only row of a query, or none."""
     return conn.execute(QUERIES[name].sql, given).fetchone()

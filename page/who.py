@@ -26,8 +26,7 @@ class Who:
             place.mkdir(parents=True, exist_ok=True, mode=0o700)
 
     def invite(self, initials, hours):
-        """The secret of a new link, which lasts so many hours and ends the clerk's older ones."""
-        self.end(initials)
+        """The secret of a new link, which lasts so many hours."""
         return self.made(self.links, initials, time.time() + hours * 3600)
 
     @staticmethod

@@ -19,7 +19,7 @@ HEADS = {"ASKED": "Asked price", "DUE": "Due on", "N": "Row", "BUY_VALUE": "Boug
 
 
 def head(name):
-    return HEADS.get(name) or name.replace("_", " ").capitalize()
+    return HEADS.get(name, name.replace("_", " ").capitalize())
 
 
 def grouped(value):
@@ -30,9 +30,9 @@ def grouped(value):
 
 def percent(part, of):
     """A rate of so many parts of a whole, without zeros at its end: `20.625 %`."""
-    scale = len(str(of // 100)) - 1
-    text = f"{part // (of // 100)}.{part % (of // 100):0{scale}}" if scale else str(part)
-    return f"{text.rstrip('0').rstrip('.')} %" if scale else f"{text} %"
+    whole = of // 100
+    text = f"{part // whole}.{part % whole:0{len(str(whole)) - 1}}"
+    return f"{text.rstrip('0').rstrip('.')} %"
 
 
 def distance(price, last):
@@ -47,11 +47,6 @@ def age(milliseconds):
     if days:
         return f"{days} d {hours} h"
     return f"{hours} h {minutes % 60} min" if hours else f"{minutes} min"
-
-
-def ago(milliseconds):
-    seconds = abs(milliseconds) // 1000
-    return f"{seconds} s" if seconds < 120 else age(abs(milliseconds))
 
 
 def moment(seconds):

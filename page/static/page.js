@@ -14,7 +14,6 @@ function tell(text) {
   line.textContent = text;
 }
 
-// Only scripts of this page can read the key.
 const ask = (url, more = {}) =>
   fetch(url, { ...more, headers: { "X-Page-Key": localStorage.getItem(KEY) ?? "" } });
 
@@ -37,9 +36,8 @@ async function enter() {
   const reply = await fetch("/enter", { method: "POST", body });
   const told = await reply.json();
   history.replaceState(null, "", reply.ok ? "/" : "/enter");
-  if (!reply.ok) return tell(told.error);
-  localStorage.setItem(KEY, told.key);
-  return show("/");
+  if (reply.ok) localStorage.setItem(KEY, told.key);
+  return reply.ok ? show("/") : tell(told.error);
 }
 
 // Sends a form that books, with a word about it while it lasts.
@@ -56,7 +54,7 @@ async function send(form) {
     one("h1")?.focus();
   } catch {
     tell("The page's program did not reply, so it is not known if this was booked. Load this anew. "
-      + "A red line has the row if it has no reply; if there is none, look before you type it again.");
+      + "A red line has the row if it has no reply; without one, look before you type it again.");
     button.textContent = "Not known";
   } finally {
     clearInterval(clock);
@@ -79,8 +77,7 @@ async function renew() {
     const known = new Set(all("[data-key]").map(rowName));
     const made = parsed(await (await ask(location.href)).text());
     ["main", ".where", "#lines"].forEach((part) => one(part).replaceWith(made.querySelector(part)));
-    const fresh = all("[data-key]").filter((row) => !known.has(rowName(row)));
-    fresh.forEach((row) => row.classList.add("new"));
+    all("[data-key]").forEach((row) => row.classList.toggle("new", !known.has(rowName(row))));
     if (at) one(`[href="${CSS.escape(at)}"]`)?.focus({ preventScroll: true });
   } catch {
     tell("The page's program does not reply: this is of the time in the head. It is asked again.");
@@ -123,17 +120,14 @@ setInterval(() => all(".age[data-read]").forEach((age) => {
 }), 1000);
 addEventListener("pagehide", () => history.replaceState({ y: scrollY }, ""));
 addEventListener("submit", (event) => {
-  if (event.target.method !== "post") return;
-  event.preventDefault();
-  send(event.target);
+  if (event.target.method === "post") event.preventDefault();
+  if (event.target.method === "post") send(event.target);
 });
 addEventListener("click", (event) => {
-  const link = event.target.closest("a[download]");
-  if (link) {
-    event.preventDefault();
-    download(link);
-  }
-  if (event.target.closest("[data-print]")) print();
+  const { target } = event, link = target.closest("a[download]");
+  if (link) event.preventDefault();
+  if (link) download(link);
+  if (target.closest("[data-print]")) print();
 });
 addEventListener("keydown", (event) => {
   const here = document.activeElement, whole = here?.matches("a") && here.closest("table, ul");

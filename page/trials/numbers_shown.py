@@ -80,10 +80,9 @@ def trades(trial):
         trial.tell(f"{name}: the days to settle", screen.line("Days to settle"), "T+" + fact(lines, "Days to settle"))
         trial.tell(f"{name}: the rates", screen.line("Rates now"), f"{int(fact(lines, 'Rates now')) / 1000:g} %")
         lots = [line.split() for line in lines if re.match("Closed|Opened 2", line)]
-        shown = [[it[key] for key in it] for it in screen.reader.tables.get("lots", []) if isinstance(it.get("td"), list)]
-        told = [[plain(text) for text in row[0] if text] for row in shown]
+        told = [[plain(text) for text in row.values() if text] for row in screen.rows("lots")]
         wanted = [[it[0].lower(), it[3], f"{it[1]} {it[2][:8]}", *it[4:8], *it[8:9]] for it in lots]
-        trial.tell(f"{name}: its lots", [[it[0], it[1], it[2], *it[3:]] for it in told], wanted)
+        trial.tell(f"{name}: its lots", told, wanted)
         view = asked(trial, screen, "trades", trade)
         record, settled = view[0], next(it for it in view if it[0] == "settlement")
         trial.tell(f"{name}: the view's commission", screen.line("Commission"), plain(f"-{record[11]}" if record[11] != "0.00" else "0.00"))
