@@ -71,7 +71,7 @@ class Snapshots:
         try:
             desk_copy.copy_live(self.file, folder / "desk.db")
             taken = Snapshot(folder, os.path.getmtime(self.file) if self.is_copy else read)
-        except (desk_copy.NoCopy, OSError, TypeError, sqlite3.Error, NoSnapshot) as error:
+        except (OSError, TypeError, sqlite3.Error, NoSnapshot) as error:
             shutil.rmtree(folder, ignore_errors=True)
             raise NoSnapshot(f"no snapshot of {self.file}: {error}") from error
         taken.begun = begun
