@@ -94,6 +94,7 @@ def main():
         listener = socket.socket()
         listener.setsockopt(socket.SOL_SOCKET, socket.SO_REUSEADDR, 1)
         listener.bind(("127.0.0.1", given.port))
+        listener.listen()
         program = served(given, who, f"127.0.0.1:{listener.getsockname()[1]}")
     except ImportError as error:
         return fail(f"{error}: apt-get install python3-flask python3-waitress")

@@ -94,7 +94,7 @@ def of_account(head):
 
 
 def found_of(conn, name, field, key):
-    found = tables.record(conn, name, **{name: key})
+    found = tables.record(conn, name, **{field.lower(): key})
     if found is None:
         raise Wrong(field, f"There is no {name} {key}. Find it by name in the field above.")
     return found
