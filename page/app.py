@@ -236,7 +236,6 @@ def add_rows(app, given, snapshots):
             with opened(given, snapshots) as desk:
                 return page("sent.html", desk, **told)
         except (NoSnapshot, sqlite3.Error):
-            # the reply is what matters here
             return page("sent.html", **told)
 
 

@@ -15,7 +15,7 @@ TIME = re.compile(r"([0-9]{4}-[0-9]{2}-[0-9]{2} [0-9]{2}:[0-9]{2}:[0-9]{2})\.[0-
 # what a spreadsheet takes for a formula
 FORMULA = ("=", "+", "@", "-", "\t", "\r")
 HEADS = {"ASKED": "Asked price", "DUE": "Due on", "N": "Row", "BUY_VALUE": "Bought for",
-         "SELL_VALUE": "Sold for", "QTY": "Shares"}
+         "SELL_VALUE": "Sold for", "QTY": "Shares", "CASH": "Settles by", "END": "Closes"}
 
 
 def head(name):

@@ -84,7 +84,6 @@ async function renew() {
   }
 }
 
-// What the program says of a screen comes after it.
 async function explain(part) {
   const reply = await ask(part.dataset.explained);
   part.innerHTML = reply.ok ? await reply.text()

@@ -333,7 +333,8 @@ def derivations_agree(trial):
     import page.derive as derive
     status, text, _ = trial.desk.run("explain", "--", "trade", "3", path=copied(trial, trial.page.screen("/trade/3")))
     shown = {"Settlement": "1.00"}
-    trial.tell("a number that differs is told", list(derive.differences(shown, text))[0].startswith("Settlement: this page has 1.00, and brk explain"))
+    told = list(derive.differences(shown, text))
+    trial.tell("a number that differs is told", any(it.startswith("Settlement: this page has 1.00, and brk explain") for it in told))
 
 
 sys.path.insert(0, str(TOP))
