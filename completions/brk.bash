@@ -61,13 +61,13 @@ _brk_value() {
 
 _brk_options() {
     case $1 in
-        batch) echo '--db --at --help' ;;
+        batch) echo '--db --existing --at --help' ;;
         statement) echo '--db --account --from --to --help' ;;
         statements) echo '--db --from --to --customer --help' ;;
         ask) echo '--db --json --heads --help' ;;
         explain) echo '--db --help' ;;
         audit) echo '--db --help' ;;
-        serve) echo '--port --db --at --streams --help' ;;
+        serve) echo '--port --db --existing --at --streams --help' ;;
         '') echo '--help --version' ;;
     esac
 }

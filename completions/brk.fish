@@ -57,6 +57,7 @@ complete -c brk -n '__brk_is_bare help' -a serve -d 'Serves the desk over HTTP, 
 
 complete -c brk -n '__brk_is batch' -s h -l help -d 'Prints the help'
 complete -c brk -n '__brk_lacks batch db' -l db -r -F -d 'FILE: The file of the desk, created if it is missing or empty (check the path); without it the desk is in memory'
+complete -c brk -n '__brk_lacks batch existing' -l existing -d 'Makes no desk: the file must have one'
 complete -c brk -n '__brk_lacks batch at' -l at -x -d 'MS, from 0 to 253402300799999: The clock reading, in milliseconds since 1970-01-01 UTC, never one in the future; without it the clock is read'
 
 complete -c brk -n '__brk_is statement' -s h -l help -d 'Prints the help'
@@ -100,5 +101,6 @@ complete -c brk -n '__brk_lacks audit db' -l db -r -F -d 'FILE: The file of the 
 complete -c brk -n '__brk_is serve' -s h -l help -d 'Prints the help'
 complete -c brk -n '__brk_lacks serve port' -l port -x -d 'P, from 1 to 65535: The port of 127.0.0.1'
 complete -c brk -n '__brk_lacks serve db' -l db -r -F -d 'FILE: The file of the desk, created if it is missing or empty (check the path); without it the desk is in memory'
+complete -c brk -n '__brk_lacks serve existing' -l existing -d 'Makes no desk: the file must have one'
 complete -c brk -n '__brk_lacks serve at' -l at -x -d 'MS, from 0 to 253402300799999: The clock reading, in milliseconds since 1970-01-01 UTC, never one in the future; without it the clock is read'
 complete -c brk -n '__brk_lacks serve streams' -l streams -x -d 'N, from 1 to 1000000: The number of streams that are served before the program ends'

@@ -1,7 +1,7 @@
 // A client of a desk that is right by construction, for programs in Java: one file that needs Java 17 and nothing else.
 //
-//     java examples/DeskClient.java JOURNAL (--port P | --db FILE) [--at MS] [--patience S] [--new] < batch.csv
-//     java examples/DeskClient.java JOURNAL (--port P | --db FILE) [--patience S] --resume
+//     java examples/DeskClient.java JOURNAL (--port P [--key FILE] | --db FILE) [--at MS] [--patience S] [--new] < batch.csv
+//     java examples/DeskClient.java JOURNAL (--port P [--key FILE] | --db FILE) [--patience S] --resume
 //
 // It has the journal of examples/desk_client.py, and this part of its command; the head of that script says what holds of both: rows
 // are in the journal, on the disk, before they are sent, and replies before they are returned; only a batch makes a journal; a desk
@@ -15,7 +15,7 @@
 //
 // `row` takes fields by their names in docs/formats/rows.md. A result or a cancel needs a Trade, which only a reply to an order or
 // a view has. Amounts are whole numbers of cents; no double occurs. java.net.http is not used: its client keeps a stream open
-// after the last request, and then all others wait.
+// after the last request, and without a door all others wait then.
 
 import java.io.BufferedInputStream;
 import java.io.ByteArrayOutputStream;
@@ -48,9 +48,15 @@ import java.util.regex.Pattern;
 
 public final class DeskClient implements AutoCloseable {
     static final int MOST_REQUESTS = 1000;
-    // how long a reply may take: others' streams come first, each of them up to half a minute idle
+    // how long a reply may take: without a door others' streams come first
     static final int REPLY_MILLIS = 120_000;
+    // the desk ends a stream that is idle for a second, so one that is idle for longer than this is not used again
+    static final long IDLE_MILLIS = 500;
     static final int CONNECT_MILLIS = 5_000;
+    // the port and the secret of the package's door, and its settings
+    static final String DOOR_PORT = "8123";
+    static final Path KEY_FILE = Path.of("/etc/brk/door.key");
+    static final Path SETTINGS = Path.of("/etc/default/brk");
     static final int MOST_BODY_BYTES = 65_536;
     static final int MOST_BATCH_BYTES = 67_108_864;
     static final Pattern BATCH = Pattern.compile("[A-Za-z0-9._-]{1,40}");
@@ -626,17 +632,50 @@ public final class DeskClient implements AutoCloseable {
         abstract void close();
     }
 
-    /** A desk that is served on a port of this machine. A stream takes a thousand requests; then another one is opened. */
+    /** The secret to send to a port, or null: that of the file `key`, or of BRK_KEY; else that of the package's door, to its port alone. */
+    private static String secretFor(int port, Path key) throws ClientException {
+        String named = System.getenv("BRK_KEY");
+        Path path = key != null ? key : named != null && !named.isEmpty() ? Path.of(named) : null;
+        try {
+            if (path == null && Files.exists(KEY_FILE) && Integer.toString(port).equals(doorPort())) {
+                path = KEY_FILE;
+            }
+            return path == null ? null : Files.readString(path, StandardCharsets.US_ASCII).strip();
+        } catch (IOException error) {
+            throw new NotSent("the secret of the door cannot be read: " + error + ": join the group brk-clients, or name its file by --key");
+        }
+    }
+
+    private static String doorPort() throws IOException {
+        String given = System.getenv("BRK_PORT");
+        if (given != null && !given.isEmpty()) {
+            return given;
+        }
+        List<String> lines = Files.exists(SETTINGS) ? Files.readAllLines(SETTINGS) : List.of();
+        return lines.stream().filter(line -> line.startsWith("BRK_PORT=")).map(line -> line.substring(9).strip()).reduce(DOOR_PORT, (first, last) -> last);
+    }
+
+    /** A desk behind its door, or served without one, on a port of this machine. A door takes one request a stream; a desk takes a thousand
+     * on one, which is used while none of its pauses is longer than IDLE_MILLIS. */
     public static final class Http extends Desk {
         private final int port;
+        private final Path key;
+        private String secret;
         private Socket stream;
         private InputStream input;
         private int left;
+        private long used;
 
         /** The patience is in seconds; null waits for ever. */
         public Http(int port, Integer patience) {
+            this(port, patience, null);
+        }
+
+        /** The key is the file of a door's secret; without one it is that of BRK_KEY, or of the package. */
+        public Http(int port, Integer patience, Path key) {
             super(patience);
             this.port = port;
+            this.key = key;
         }
 
         @Override
@@ -644,25 +683,29 @@ public final class DeskClient implements AutoCloseable {
 
         private Map.Entry<String, Object> once(String target, List<String> texts) throws IOException, ClientException {
             try {
-                if (left == 0) {
+                if (left == 0 || System.nanoTime() - used > IDLE_MILLIS * 1_000_000L) {
                     open();
                 }
                 left--;
                 byte[] body = json(texts).getBytes(StandardCharsets.UTF_8);
-                String head = "POST " + target + " HTTP/1.1\r\nHost: 127.0.0.1:" + port + "\r\nContent-Length: " + body.length + "\r\n\r\n";
+                String head = "POST " + target + " HTTP/1.1\r\nHost: 127.0.0.1:" + port + "\r\nContent-Length: " + body.length + "\r\n"
+                    + (secret == null ? "" : "X-Brk-Key: " + secret + "\r\n") + "\r\n";
                 var request = new ByteArrayOutputStream();
                 request.writeBytes(head.getBytes(StandardCharsets.US_ASCII));
                 request.writeBytes(body);
                 stream.getOutputStream().write(request.toByteArray());
-                return reply();
+                var found = reply();
+                used = System.nanoTime();
+                return found;
             } catch (IOException error) {
                 close();
                 throw error;
             }
         }
 
-        private void open() throws IOException {
+        private void open() throws IOException, ClientException {
             close();
+            secret = secretFor(port, key);
             stream = new Socket();
             try {
                 stream.connect(new InetSocketAddress("127.0.0.1", port), CONNECT_MILLIS);
@@ -709,18 +752,30 @@ public final class DeskClient implements AutoCloseable {
             if (ends) {
                 close();
             }
-            if (status[1].equals("502") || status[1].equals("503")) {
-                throw new IOException(new String(body, StandardCharsets.UTF_8));
-            }
             Object value = Reader.read(new String(body, StandardCharsets.UTF_8));
             if (!(value instanceof Map<?, ?> members) || members.size() != 1) {
                 throw new NotSent("port " + port + " gives no reply of a desk");
             }
             Map.Entry<?, ?> member = members.entrySet().iterator().next();
             if (member.getKey().equals("error")) {
-                throw new NotSent(status[1] + " " + member.getValue());
+                throw failure(status[1], String.valueOf(member.getValue()));
             }
             return Map.entry((String) member.getKey(), member.getValue());
+        }
+
+        /** The error for a reply of a door, or of a desk, that is no answer: a row is sent again after an IOException. */
+        private IOException failure(String status, String text) throws ClientException {
+            if (status.equals("408") || (status.equals("503") && text.startsWith("busy"))) {
+                return new NotReached(text + ": see whether the desk runs: systemctl status brk.service");
+            }
+            if (List.of("502", "503", "504").contains(status)) {
+                return new IOException(text);
+            }
+            if (status.equals("403")) {
+                throw new NotSent("the door at port " + port + " refuses this program: " + text
+                    + ": name the file of its secret by --key, or join the group brk-clients");
+            }
+            throw new NotSent(status + " " + text);
         }
 
         @Override
@@ -751,8 +806,8 @@ public final class DeskClient implements AutoCloseable {
         }
     }
 
-    /** A desk in a file that no service holds: `brk batch` and `brk ask` run on it. The file exists and is not empty, since brk would
-     * make a new desk otherwise; with `isNew` there is neither the file nor its log, and the first batch makes it. */
+    /** A desk in a file that no service holds: `brk batch --existing` and `brk ask` run on it. With `isNew` there is neither the file nor
+     * its log, and the first batch makes it. */
     public static final class CommandLine extends Desk {
         private final Path path;
         private final boolean isNew;
@@ -843,7 +898,11 @@ public final class DeskClient implements AutoCloseable {
         }
 
         private List<Answer> lines(byte[] text, int count, Set<Long> numbers, long reading) throws IOException, ClientException {
-            Done done = run(List.of("batch", "--db", path.toString(), "--at", Long.toString(reading)), text);
+            var words = new ArrayList<>(List.of("batch", "--db", path.toString(), "--at", Long.toString(reading)));
+            if (!isNew) {
+                words.add("--existing");
+            }
+            Done done = run(words, text);
             if (done.status != 0) {
                 throw new IOException(done.message);
             }
@@ -1030,17 +1089,18 @@ public final class DeskClient implements AutoCloseable {
         var options = new HashMap<String, String>();
         for (int at = 1; at < words.length; at++) {
             boolean isFlag = words[at].equals("--new") || words[at].equals("--resume");
-            if (!isFlag && !(List.of("--port", "--db", "--at", "--patience").contains(words[at]) && at + 1 < words.length)) {
+            if (!isFlag && !(List.of("--port", "--key", "--db", "--at", "--patience").contains(words[at]) && at + 1 < words.length)) {
                 return usage();
             }
             options.put(words[at], isFlag ? "" : words[++at]);
         }
-        if (words.length == 0 || words[0].startsWith("--") || options.containsKey("--port") == options.containsKey("--db")) {
+        if (words.length == 0 || words[0].startsWith("--") || options.containsKey("--port") == options.containsKey("--db")
+            || options.containsKey("--key") && options.containsKey("--db")) {
             return usage();
         }
         Integer patience = options.containsKey("--patience") ? Integer.valueOf(options.get("--patience")) : null;
         Desk desk = options.containsKey("--port")
-            ? new Http(Integer.parseInt(options.get("--port")), patience)
+            ? new Http(Integer.parseInt(options.get("--port")), patience, options.containsKey("--key") ? Path.of(options.get("--key")) : null)
             : new CommandLine(Path.of(options.get("--db")), patience, options.containsKey("--new"));
         LongSupplier now = options.containsKey("--at") ? () -> Long.parseLong(options.get("--at")) : System::currentTimeMillis;
         try (var client = new DeskClient(Path.of(words[0]), desk, now, !options.containsKey("--resume"))) {
@@ -1078,7 +1138,7 @@ public final class DeskClient implements AutoCloseable {
     }
 
     private static int usage() {
-        System.err.println("usage: java DeskClient.java JOURNAL (--port P | --db FILE) [--at MS] [--patience S] [--new] [--resume]");
+        System.err.println("usage: java DeskClient.java JOURNAL (--port P [--key FILE] | --db FILE) [--at MS] [--patience S] [--new] [--resume]");
         return 2;
     }
 }

@@ -2,9 +2,9 @@
 
     import desk_books
 
-sqlite3 copies the file, with what its log has, into a temporary folder. The copy is read by SQL, and
-deleted. While a run of brk has the file, no copy is made: `database is locked`. It needs Python 3.9 and
-nothing else. docs/formats/tables.md lists the tables.
+examples/desk_copy.py copies the file, with what its log has, into a temporary folder, also while a service
+holds it. The copy is read by SQL, and deleted. It needs Python 3.9 and nothing else. docs/formats/tables.md
+lists the tables.
 """
 
 import collections
@@ -15,7 +15,8 @@ import re
 import sqlite3
 import sys
 import tempfile
-import urllib.parse
+
+from desk_copy import copy_live
 
 SCHEMA = 3
 DAY_MS = 86_400_000
@@ -77,24 +78,12 @@ Broker = collections.namedtuple("Broker", "id commissions")
 Price = collections.namedtuple("Price", "stamp symbol price")
 
 
-def copy_file(path, target):
-    """Copies a desk's file, with what its log has, to a new file. Raises an error of sqlite3 if another
-    program has it, or if the user may not write its folder."""
-    name = f"file:{urllib.parse.quote(os.path.abspath(path))}?mode=ro"
-    with contextlib.closing(sqlite3.connect(name, uri=True, timeout=0, isolation_level=None)) as source:
-        with contextlib.closing(sqlite3.connect(target)) as copy:
-            # this fails if the file is locked, where a backup would wait; and it keeps brk out
-            source.execute("BEGIN")
-            source.execute("SELECT count(*) FROM sqlite_master").fetchall()
-            source.backup(copy)
-
-
 @contextlib.contextmanager
 def copied(path):
-    """Opens a copy of a desk's file, and deletes it at the end. Raises the errors of `copy_file`."""
+    """Opens a copy of a desk's file, and deletes it at the end. Raises NoCopy, which is an OSError."""
     with tempfile.TemporaryDirectory(prefix="desk-books-") as folder:
         copy = os.path.join(folder, "copy.db")
-        copy_file(path, copy)
+        copy_live(path, copy)
         with contextlib.closing(sqlite3.connect(copy)) as conn:
             yield conn
 

@@ -1,8 +1,8 @@
 #!/usr/bin/env python3
 """A client of a desk that is right by construction: a module for programs, and a command.
 
-    desk_client.py JOURNAL (--port P | --db FILE) [--at MS] [--patience S] < batch.csv
-    desk_client.py JOURNAL (--port P | --db FILE) [--patience S] --resume
+    desk_client.py JOURNAL (--port P [--key FILE] | --db FILE) [--at MS] [--patience S] < batch.csv
+    desk_client.py JOURNAL (--port P [--key FILE] | --db FILE) [--patience S] --resume
     desk_client.py JOURNAL|FOLDER --verify COPY
     desk_client.py --records JOURNAL|FOLDER ..
     desk_client.py --restore DESK RECORDS
@@ -27,7 +27,8 @@ older copy. FOLDER is one of examples/send. No journal is made but by the first 
   `amount`, which counts in cents.
 - Rows of a batch are sent in their order, each after the reply to the one before it.
 
-Http(port) sends to `brk serve`; File(path) runs `brk batch` and `brk ask` on a file that exists and is not empty, while no service
+Http(port) sends to the door of a desk, or to a `brk serve` that has none. The door wants the secret of the file --key, or of BRK_KEY in
+the environment; without them that of /etc/brk/door.key, which goes to the port BRK_PORT of the settings alone. File(path) runs `brk batch` and `brk ask` on a file that exists and is not empty, while no service
 holds it. Both book under the same keys, so a journal may be continued with the other one. BRK names the program; without it `brk` on
 PATH is taken, and then ../brk. A journal belongs to one program at a time and to one desk. Once each of its rows has a reply, another
 one may be begun, with other names of batches. Its lines are JSON lists of texts:
@@ -57,10 +58,16 @@ import subprocess
 import sys
 import time
 
+from desk_settings import whole_setting
+
 HERE = pathlib.Path(__file__).resolve().parent
 MOST_REQUESTS = 1000
-# how long a reply may take: others' streams come first, each of them up to half a minute idle
+# how long a reply may take: without a door others' streams come first, each of them for up to a minute
 REPLY_SECONDS = 120
+# the desk ends a stream that is idle for a second, so one that is idle for longer than this is not used again
+IDLE_SECONDS = 0.5
+# the field of a request that has the secret of a door, and the secret and the port of the package's door
+KEY_FIELD, KEY_FILE, DOOR_PORT = "X-Brk-Key", "/etc/brk/door.key", 8123
 MOST_BODY_BYTES = 65_536
 MOST_BATCH_BYTES = 67_108_864
 # how many trades a lookup has
@@ -347,7 +354,38 @@ class Journal(Stored):
 
 
 class NotReached(OSError):
-    """The desk was not reached: nothing was sent."""
+    """The desk was not reached: no row was executed."""
+
+
+def secret_for(port, key=None):
+    """Returns the secret to send to a port, or None: that of the file `key`, or of BRK_KEY; else that of the package's door, to its port
+    alone, so that no other program that listens gets it."""
+    path = key or os.environ.get("BRK_KEY")
+    if not path and port == whole_setting("BRK_PORT", DOOR_PORT) and os.path.exists(KEY_FILE):
+        path = KEY_FILE
+    try:
+        return pathlib.Path(path).read_text("ascii").strip() if path else None
+    except (OSError, ValueError) as error:
+        why = getattr(error, "strerror", None) or error
+        raise NotSent(f"the secret of the door cannot be read: {path}: {why}: join the group brk-clients, or name its file by --key") from None
+
+
+def answer_of(port, status, body):
+    """Returns the word and the value of a reply. Raises NotReached or ConnectionError for one of a door, or of a desk that failed, after which
+    a row is sent again, and NotSent for one after which it cannot be sent."""
+    try:
+        (word, value), = json.loads(body).items()
+    except (ValueError, AttributeError):
+        word, value = None, f"status {status}"
+    if status == 408 or (status == 503 and str(value).startswith("busy")):
+        raise NotReached(f"{value}: see whether the desk runs: systemctl status brk.service")
+    if status in (502, 503, 504):
+        raise ConnectionError(value)
+    if status == 403:
+        raise NotSent(f"the door at port {port} refuses this program: {value}: name the file of its secret by --key, or join the group brk-clients")
+    if word is None:
+        raise NotSent(f"port {port} gives no reply of a desk: {value}")
+    return word, value
 
 
 def patiently(patience, action, what):
@@ -367,12 +405,13 @@ def patiently(patience, action, what):
 
 
 class Http:
-    """A desk that is served on a port of this machine. A stream takes a thousand requests; then another one is opened. Close it when
-    nothing is to be sent: others wait as long as it is open."""
+    """A desk behind its door, or served without one, on a port of this machine. A door takes one request a stream; a desk takes a thousand
+    on one, which is used while none of its pauses is longer than IDLE_SECONDS. Close it when nothing is to be sent. `key` is the path of a
+    secret."""
 
-    def __init__(self, port, patience=None):
-        self.port, self.patience = port, patience
-        self.stream, self.left = None, 0
+    def __init__(self, port, patience=None, key=None):
+        self.port, self.patience, self.key = port, patience, key
+        self.stream, self.left, self.used, self.fields = None, 0, 0.0, {}
 
     def require(self, stored, rows):
         """Any number of rows can be sent, also while the desk is away."""
@@ -383,8 +422,10 @@ class Http:
 
     def once(self, target, texts):
         try:
-            if self.left == 0:
+            if self.left == 0 or time.monotonic() - self.used > IDLE_SECONDS:
                 self.close()
+                secret = secret_for(self.port, self.key)
+                self.fields = {KEY_FIELD: secret} if secret else {}
                 self.stream = http.client.HTTPConnection("127.0.0.1", self.port, timeout=REPLY_SECONDS)
                 try:
                     self.stream.connect()
@@ -393,23 +434,18 @@ class Http:
                 self.left = MOST_REQUESTS
             self.left -= 1
             # a body of bytes is sent with its length; one of an iterator would be chunked, and refused
-            self.stream.request("POST", target, json.dumps(texts).encode())
+            self.stream.request("POST", target, json.dumps(texts).encode(), self.fields)
             reply = self.stream.getresponse()
             if reply.getheader("Content-Length") is None:
                 raise ConnectionError("the reply is cut")
-            (word, value), = json.loads(reply.read()).items()
-        except (ValueError, AttributeError) as error:
-            self.close()
-            raise NotSent(f"port {self.port} gives no reply of a desk: {target}") from error
+            body = reply.read()
+            self.used = time.monotonic()
         except BaseException:
             self.close()
             raise
-        if reply.getheader("Connection") == "close":
+        if reply.getheader("Connection") == "close" or reply.status >= 500:
             self.close()
-        if reply.status in (502, 503):
-            self.close()
-            raise ConnectionError(value)
-        return word, value
+        return answer_of(self.port, reply.status, body)
 
     def close(self):
         if self.stream is not None:
@@ -443,8 +479,8 @@ def program():
 
 
 class File:
-    """A desk in a file that no service holds: `brk batch` and `brk ask` run on it. The file exists and is not empty, since brk would
-    make a new desk otherwise; with `new` there is neither the file nor its log, and the first batch makes it."""
+    """A desk in a file that no service holds: `brk batch --existing` and `brk ask` run on it. With `new` there is neither the file nor its
+    log, and the first batch makes it."""
 
     def __init__(self, path, patience=None, new=False):
         self.path, self.patience, self.new = os.fspath(path), patience, new
@@ -483,7 +519,7 @@ class File:
         yield patiently(self.patience, lambda: self.lines(text, set(numbers), len(sent), reading), self.path)
 
     def lines(self, text, numbers, count, reading):
-        status, output, message = self.run(["batch", "--db", self.path, "--at", str(reading)], text)
+        status, output, message = self.run(["batch", "--db", self.path, *([] if self.new else ["--existing"]), "--at", str(reading)], text)
         # a line is complete once its line feed is there
         lines = [line.split(",") for line in output.decode("ascii", "replace").split("\n")[:-1]]
         if status:
@@ -631,6 +667,7 @@ def arguments():
     way.add_argument("--verify", metavar="COPY", help="compare the accepted rows with a copy of the desk")
     way.add_argument("--records", nargs="+", metavar="JOURNAL|FOLDER", help="print the accepted rows of all, by their stamps")
     way.add_argument("--restore", nargs=2, metavar=("DESK", "RECORDS"), help="send records to a desk, each at its stamp")
+    words.add_argument("--key", metavar="FILE", help="the secret of the door at --port")
     words.add_argument("--at", type=int, metavar="MS", help="the clock reading, in place of the machine's")
     words.add_argument("--patience", type=int, metavar="S", help="seconds to wait for a desk that is away; for ever without it")
     words.add_argument("--new", action="store_true", help="make the desk of --db")
@@ -640,6 +677,8 @@ def arguments():
         words.error("JOURNAL is needed, but with --records and --restore")
     if not (given.port or given.db) and (given.at is not None or given.patience is not None or given.new or given.resume):
         words.error("--at, --patience, --new and --resume need --port or --db")
+    if given.key and not given.port:
+        words.error("--key needs --port")
     return given
 
 
@@ -657,7 +696,7 @@ def send_batch(client):
 
 def send(given):
     """Sends a batch, or what has no reply."""
-    desk = Http(given.port, given.patience) if given.port else File(given.db, given.patience, given.new)
+    desk = Http(given.port, given.patience, given.key) if given.port else File(given.db, given.patience, given.new)
     now = [lambda: given.at] if given.at is not None else []
     with Client(given.journal, desk, *now, makes=not given.resume) as client:
         if not given.resume:

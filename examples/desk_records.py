@@ -6,8 +6,8 @@
 
 FOLDER is one of examples/send, with a folder for each batch, or the folder of one batch. No journal, folder or copy is changed.
 
-- **--verify** compares each accepted row with the table KEPT of COPY, a file of the desk that no program holds, by the order of the
-  stamps. It sends nothing. The first row that is missing there, or has another row or reply, ends it with status 5.
+- **--verify** compares each accepted row with the table KEPT of COPY, a file of the desk, which a service may hold, by the order
+  of the stamps. It sends nothing. The first row that is missing there, or has another row or reply, ends it with status 5.
 - **--records** prints a line for each accepted row, by the order of the stamps, each row once:
 
       [STAMP, BATCH, N, [FIELD, ..], [STAMP, FIELD, ..]]        the row and its reply
@@ -115,7 +115,9 @@ def add_batch(source, part):
     no line of a later sending that was cut short, may have been accepted then: it has no reply."""
     try:
         batch, rows = desk_client.batch_read((part / "batch.csv").read_text("utf-8"))
-        reading = int((part / "batch.at").read_text())
+        at = part / "batch.at"
+        # a batch that went over a door has no reading: that of its storing stands for it
+        reading = int(at.read_text()) if at.exists() else (part / "batch.csv").stat().st_mtime_ns // 1_000_000
     except (OSError, ValueError, desk_client.ClientError) as error:
         raise desk_client.ClientError(f"no batch of examples/send: {part}: {error}") from None
     accepted, last = {}, {}
@@ -174,7 +176,7 @@ class Kept:
             with desk_books.copied(path) as conn:
                 (self.last,) = conn.execute("SELECT coalesce(D_LAST, -1) FROM DESK").fetchone()
                 self.rows = {(batch, number): (row, line) for batch, number, row, line in conn.execute("SELECT K_BATCH, K_N, K_ROW, K_LINE FROM KEPT")}
-        except (sqlite3.Error, TypeError) as error:
+        except (OSError, sqlite3.Error, TypeError) as error:
             raise desk_client.ClientError(f"no desk can be read: {path}: {error}") from None
 
     def require(self, record):
@@ -278,7 +280,7 @@ def runs_of(records):
 def send_run(desk, run):
     """Sends a run of records, by a service of its own that has the stamp of the first as its clock."""
     port = free_port()
-    words = [desk_client.program(), "serve", "--port", str(port), "--db", desk, "--at", str(run[0].stamp), "--streams", "1"]
+    words = [desk_client.program(), "serve", "--port", str(port), "--db", desk, "--existing", "--at", str(run[0].stamp), "--streams", "1"]
     try:
         service = subprocess.Popen(words, stdin=subprocess.DEVNULL, stdout=subprocess.DEVNULL, stderr=subprocess.PIPE, preexec_fn=end_with_us)
     except OSError as error:

@@ -16,8 +16,9 @@ import sys
 
 sys.dont_write_bytecode = True
 
-from desk_books import TYPES, WITHHELD, copy_file, day_text  # noqa: E402
+from desk_books import TYPES, WITHHELD, day_text  # noqa: E402
 from desk_client import REFUSALS, amount, cents  # noqa: E402
+from desk_copy import copy_live  # noqa: E402
 
 DAY_MS = 86_400_000
 BUYS = ("TMB", "TLB")
@@ -85,7 +86,7 @@ class Copy:
         self.last, self.prices, self.balances = None, {}, {}
         self.is_desk = file is not None
         if self.is_desk:
-            copy_file(file, self.path)
+            copy_live(file, self.path)
             with self.opened() as conn:
                 (self.last,) = conn.execute("SELECT D_LAST FROM DESK").fetchone()
                 self.prices = dict(conn.execute("SELECT LT_S_SYMB, LT_PRICE FROM LAST_TRADE"))

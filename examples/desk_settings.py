@@ -1,6 +1,6 @@
 """The settings of a desk, for the scripts beside this one.
 
-    from desk_settings import whole_setting
+    from desk_settings import text_setting, whole_setting
 
 A setting is taken from the environment, then from FILE, which the services of the package read
 (docs/PACKAGE.md, "Settings"), and is otherwise what the script takes without one. It needs Python 3.9.
@@ -30,9 +30,14 @@ def settings_of_file():
     return {line[1]: line[2].strip().strip("\"'") for line in found if line}
 
 
+def text_setting(name, default):
+    """Returns a setting."""
+    return os.environ.get(name) or settings_of_file().get(name) or default
+
+
 def whole_setting(name, default):
     """Returns a setting that is a whole number."""
-    text = os.environ.get(name) or settings_of_file().get(name) or str(default)
+    text = text_setting(name, str(default))
     if not re.fullmatch(r"[0-9]{1,9}", text):
         raise WrongSetting(f"{name}={text} is no whole number: correct it in the environment or in {FILE}")
     return int(text)

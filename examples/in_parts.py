@@ -89,7 +89,7 @@ def main():
     if not given.new and not (os.path.isfile(given.db) and os.path.getsize(given.db)):
         fail(1, f"{given.db}: no desk there; --new makes one")
     brk = given.brk or program()
-    options = ["--db", given.db, *(["--at", given.at] if given.at else [])]
+    options = ["--db", given.db, *([] if given.new else ["--existing"]), *(["--at", given.at] if given.at else [])]
     name, rows = batch_read(sys.stdin.buffer.read().decode("utf-8-sig"))
     trades, counts, before = [], [0, 0, 0], 0
     for place, part in enumerate(parts_of(rows), 1):

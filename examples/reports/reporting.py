@@ -94,11 +94,7 @@ def add_functions(conn):
 
 def why(path, error):
     """Says what an error means that came while a file was read."""
-    text = str(error)
-    if "locked" in text:
-        return f"{path} is in use: a run of brk or brk serve holds it. Try again when it has ended, or take the newest copy"
-    if "unable to open" in text or "readonly" in text:
-        return f"{path} cannot be opened: {text}. sqlite3 needs the right to write to its folder; copy the file to your own"
+    text = str(error).removeprefix(f"{path}: ")
     if "not a database" in text or "malformed" in text:
         return f"no desk: {path}: {text}"
     if "no such table: DESK" in text:

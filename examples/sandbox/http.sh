@@ -2,7 +2,7 @@
 # Drives a desk to practise with over HTTP, with curl: sh examples/sandbox/http.sh PORT. First make the desk, and serve it:
 #
 #     brk batch --db box.db --at 1709251200000 < examples/sandbox/mark.csv
-#     test -s box.db && brk serve --port 8199 --db box.db --at 1709251200000 --streams 10 &
+#     brk serve --port 8199 --db box.db --existing --at 1709251200000 --streams 10 &
 #     sh examples/sandbox/http.sh 8199
 #
 # Each command below opens one stream, and so does the test of the desk. Exit status: 4, and nothing is sent, if the desk has no

@@ -2,7 +2,7 @@
 """Asks a desk to practise with for views over HTTP, and prints each as a table.
 
     brk batch --db box.db --at 1709251200000 < examples/sandbox/mark.csv
-    test -s box.db && brk serve --port 8199 --db box.db --at 1709251200000 --streams 9 &
+    brk serve --port 8199 --db box.db --existing --at 1709251200000 --streams 9 &
     python3 examples/sandbox/views.py 8199 --book-day
     python3 examples/sandbox/views.py 8199 status 100
 

@@ -19,7 +19,7 @@ CODE = re.compile(r'(?<!`)(`+)(?!`)(.+?)(?<!`)\1(?!`)', re.S)
 INLINE = re.compile(r'!?\[(?:[^\[\]]|\[[^\[\]]*\])*\]\([^)]*\)', re.S)
 LABEL = re.compile(r'\[([^\[\]]+)\](?!\()')
 DEFINED = re.compile(r'^\[([^\]]+)\]: (\S+)$', re.M)
-PATH = re.compile(r'(?<![\w/.:\[-])(?:(?:docs|tools|examples|completions|crates|mutants|\.ci|brk_\w+)(?:/[\w.-]+)+'
+PATH = re.compile(r'(?<![\w/.:\[-])(?:(?:docs|tools|examples|door|completions|crates|mutants|\.ci|brk_\w+)(?:/[\w.-]+)+'
                   r'|(?:README|CHANGELOG|CONTRIBUTING|SECURITY)\.md(?![\w/]))')
 QUOTED = re.compile(r'[\w.-]+(?:/[\w.-]+)+/?|(?:README|CHANGELOG|CONTRIBUTING|SECURITY)\.md|crates\.txt|HANDLES|LICENSE')
 AFTER = re.compile(r',?\s+\(?"([^"]+)"\)?')

@@ -4,7 +4,7 @@ import re
 
 # names that no file of the tree holds: of other programs, and of examples
 FOREIGN = {'b_id', 'urllib'}
-FOLDERS = ('crates', 'docs', 'tools', 'mutants', 'examples', 'completions', 'src', 'specs', 'proofs', '.ci')
+FOLDERS = ('crates', 'docs', 'tools', 'mutants', 'examples', 'door', 'completions', 'src', 'specs', 'proofs', '.ci')
 # whose words are no names of the tree
 NO_SOURCES = ('docs/brk.1', 'tools/checks/names.py')
 

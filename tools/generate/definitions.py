@@ -17,7 +17,7 @@ CODE = [
     'brk_ref', 'brk_trade_rows', 'brk_store_index', 'brk_tables_sql', 'brk_tables_schema', 'brk_tables_trading', 'brk_tables_cash',
     'brk_tables_views', 'brk_tables', 'brk_tables_scan', 'brk_tables_definitions', 'brk_store_transactions', 'brk_store_reads', 'brk_store',
     'brk_store_required', 'brk_view_rows', 'brk_desk_queries', 'brk_explain_reads', 'brk_desk', 'brk_io', 'brk_import_engine', 'brk_import',
-    'brk_http_engine', 'brk_http', 'brk_report_lines', 'brk_report', 'brk_explain', 'brk_ask', 'brk_cli_jobs', 'brk_cli_exit',
+    'brk_http_engine', 'brk_http', 'brk_http_stamps', 'brk_report_lines', 'brk_report', 'brk_explain', 'brk_ask', 'brk_cli_jobs', 'brk_cli_exit',
 ]
 CRATES = MODEL + CODE
 

@@ -39,8 +39,18 @@ BATCH = {"type": "string", "pattern": "^[A-Za-z0-9._-]{1,40}$", "description": "
 NUMBER = {"type": "string", "pattern": "^[1-9][0-9]*$", "description": "the number of the row in it, 1 to 1000000000000"}
 NOTE = (
     "Numbers are texts; amounts have two digits after the point. Descriptions of fields have the limits that patterns have not. "
-    "The desk serves one stream after another: send, read, close. docs/formats/http.md has the rest."
+    "The door takes one request a connection, with its secret. docs/formats/http.md has the rest."
 )
+
+
+# the replies of the door itself, with the text of each
+OF_DOOR = {
+    "403": ("Another site, another Host, no secret or a wrong one: send the secret of the door", "forbidden"),
+    "408": ("Not whole after 5 s: send it again", "too slow"),
+    "502": ("The desk ended before its reply was whole: send it again under its key", "not known: send again under the key"),
+    "503": ("No desk, or others were served for 10 s: send it again", "busy: never reached the desk"),
+    "504": ("No reply within 25 s: send it again under its key", "not known: send again under the key"),
+}
 
 
 def fail(what):
@@ -156,10 +166,13 @@ def replies(tables, accepted, column):
         elif status == "409":
             schema = refusals_for(tables, column)
         else:
-            schema = body_of("error", {"type": "string", "enum": texts})
+            schema = body_of("error", {"type": "string", "enum": texts + ([OF_DOOR[status][1]] if status in OF_DOOR else [])})
         ends = "; the last reply of its stream" if lines[0]["ends"] == "always" else ""
         todo = {"200": "Accepted, or the view", "409": "Refused"}.get(status, lines[0]["todo"])
         found[status] = {"description": f"{lines[0]['reason']}: {todo}{ends}", "content": {"application/json": {"schema": schema}}}
+    for status, (text, word) in OF_DOOR.items():
+        if status not in found:
+            found[status] = {"description": text, "content": {"application/json": {"schema": body_of("error", {"const": word})}}}
     return found
 
 
@@ -199,7 +212,8 @@ def main():
         "info": {"title": "brk serve", "version": "schema 3", "description": NOTE},
         "servers": [{"url": "http://127.0.0.1:8123"}],
         "paths": paths(tables),
-        "components": {"schemas": components(tables)},
+        "security": [{"door": []}],
+        "components": {"schemas": components(tables), "securitySchemes": {"door": {"type": "apiKey", "in": "header", "name": "X-Brk-Key"}}},
     }
     print(json.dumps(description, indent=1))
 

@@ -33,8 +33,8 @@ SCHEMA = (1, "brk: damaged: schema\n")
 
 
 def script(name):
-    """The module of a script of this folder, of examples/trials or of tools."""
-    folders = (TOP / "tools/trials", TOP / "examples/trials", TOP / "tools")
+    """The module of a script of this folder, of examples/trials, of tools or of examples."""
+    folders = (TOP / "tools/trials", TOP / "examples/trials", TOP / "tools", TOP / "examples", TOP / "door")
     loader = importlib.machinery.SourceFileLoader(name, str(next(it / name for it in folders if (it / name).exists())))
     module = importlib.util.module_from_spec(importlib.util.spec_from_loader(name, loader))
     sys.modules[name] = module

@@ -16,29 +16,33 @@ import time
 from cases import BUILT, TOP, Cases, arguments, left_out, require
 
 PAGE = TOP / "docs/PACKAGE.md"
-RUN_HERE = "<!-- not run: tools/trials/try_package -->"
+RUN_HERE = re.compile(r"<!-- not run: tools/trials/try_(?:package|service) -->")
 # the day and the packages that the page names
 DAY, PACKAGE = "2026-11-29", re.compile(r"brk_[\d.]+-(\d+)_amd64\.deb")
 PORT = 8123
 SECONDS = 120
 # no python3 and no sqlite3: apt installs them with the package
-PARTS, NEEDED = "systemd-sysv,dbus,sudo,ca-certificates,procps", ["python3", "sqlite3"]
+PARTS, NEEDED = "systemd-sysv,dbus,sudo,ca-certificates,procps", ["haproxy", "python3", "sqlite3"]
 DESK = "/var/lib/brk/desk.db"
-# prints the status and the body of a reply, once a desk listens
+KEY = "etc/brk/door.key"
+# prints the status and the body of a reply, once the door has a desk
 POST = """
 import http.client, sys, time
-port, target, body, until = int(sys.argv[1]), sys.argv[2], sys.argv[3], time.monotonic() + float(sys.argv[4])
+port, target, body, until, key = int(sys.argv[1]), sys.argv[2], sys.argv[3], time.monotonic() + float(sys.argv[4]), sys.argv[5]
 while True:
     try:
         stream = http.client.HTTPConnection("127.0.0.1", port, timeout=60)
-        stream.request("POST", target, body)
+        stream.request("POST", target, body, {"X-Brk-Key": key})
         reply = stream.getresponse()
-        print(reply.status, reply.read().decode())
-        break
-    except (ConnectionError, http.client.HTTPException):
-        if time.monotonic() > until:
-            sys.exit("it does not listen")
-        time.sleep(0.2)
+        told = reply.read().decode()
+        if reply.status not in (502, 503, 504):
+            print(reply.status, told)
+            break
+    except (OSError, http.client.HTTPException):
+        told = "it does not listen"
+    if time.monotonic() > until:
+        sys.exit(told)
+    time.sleep(0.2)
 """
 
 
@@ -60,7 +64,7 @@ def page_blocks(packages):
     found = {}
     for section in PAGE.read_text(encoding="utf-8").split("\n## ")[1:]:
         title, _, text = section.partition("\n")
-        for part in text.split(RUN_HERE)[1:]:
+        for part in RUN_HERE.split(text)[1:]:
             block = part.lstrip("\n").partition("\n\n")[0].split("\n")
             lines = [line[4:] for line in block if line.startswith("    ")]
             found.setdefault(title, []).append([of_today(line, packages) for line in lines])
@@ -125,9 +129,10 @@ class Machine:
         """What a command prints, without the last line feed."""
         return self.run(command)[1].strip()
 
-    def posted(self, target, body, port=PORT):
-        """The status and the body of a reply of the machine's desk."""
-        words = ["nsenter", f"--target={self.first}", "--net", sys.executable, "-c", POST, str(port), target, json.dumps(body), str(SECONDS)]
+    def posted(self, target, body, port=PORT, key=None, seconds=SECONDS):
+        """The status and the body of a reply of the machine's desk, over its door."""
+        key = (self.root / KEY).read_text().strip() if key is None else key
+        words = ["nsenter", f"--target={self.first}", "--net", sys.executable, "-c", POST, str(port), target, json.dumps(body), str(seconds), key]
         done = subprocess.run(words, stdin=subprocess.DEVNULL, capture_output=True, text=True)
         status, _, text = done.stdout.partition(" ")
         return (int(status), text) if done.returncode == 0 else (None, done.stderr)

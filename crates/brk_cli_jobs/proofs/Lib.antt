@@ -10,4 +10,5 @@ pub mod Placed
 pub mod Printed
 pub mod Sequence
 pub mod Served
+pub mod Stamped
 pub mod Told

@@ -3,21 +3,21 @@
 ghost use Rattle.std.specs.Prelude.{◌≡◌};
 ghost use Rattle.brk_cli_jobs.specs.Endings.{ending_of_serving, result_of_serving};
 ghost use Rattle.brk_cli_jobs.specs.Jobs.{ServesListener, ServesStreams};
-ghost use Rattle.brk_cli_jobs.specs.Serving.{ServesNextStream, ServesStreamOrCloses, ServesStreamsAndCloses, ServesStreamsInFile};
+ghost use Rattle.brk_cli_jobs.specs.Serving.{ServesNextStream, ServesStamped, ServesStreamOrCloses, ServesStreamsAndCloses, ServesStreamsInFile};
 
 use crate::desk_files::DeskFiles;
-use crate::reopening::ready_store;
+use crate::reopening::{begin_serving, into_store, ready_desk};
 use brk_cli_exit::{Ending, ending_after_close};
 use brk_desk::Desk;
-use brk_http::{ListenFault, serve_listener};
+use brk_http::{ListenFault, Listener, Peer, serve_listener};
 use brk_http_limits::TimedListener;
+use brk_http_stamps::{StampedDesk, serve_stamped_listener};
 use brk_io::{Clock, ProgramClock};
 use brk_money::Stamp;
 use brk_store::Store;
 use sqlite::Alter;
 use std::alloc::Global;
 use std::net::TcpListener;
-use std::time;
 
 fn result_of_serving(served: Result<(), ListenFault>) -> Result<(), Ending>
     ensures { result ≡ result_of_serving served }
@@ -38,6 +38,18 @@ fn ending_of_serving(served: Result<(), Ending>) -> Ending
     }
 }
 
+fn serve_desk<P: Peer, L: Listener<Stream = P>, C: Clock, S: Alter>(
+    alloc: Global,
+    listener: &mut L,
+    streams: u32,
+    clock: &mut C,
+    desk: &mut Desk<S>,
+) -> Result<(), Ending>
+    ensures { ServesListener S.Store C.gives streams clock.old clock.new desk.old desk.new result }
+{
+    result_of_serving(serve_listener(alloc, listener, streams, clock, desk))
+}
+
 /// Serves `streams` streams of HTTP requests on a desk, in sequence, each to its end. A stream that
 /// its peer broke off, also before it was accepted, or whose reading or writing failed counts as
 /// one. Fails with `Serve` if memory ran out in a stream, and with `Net` if a stream cannot be
@@ -53,58 +65,7 @@ pub fn serve_on<C: Clock, S: Alter>(
     ensures { ServesListener S.Store C.gives streams clock.old clock.new desk.old desk.new result }
 {
     let mut listener = listener;
-    result_of_serving(serve_listener(alloc, &mut listener, streams, clock, desk))
-}
-
-/// Serves streams as `serve_on` does, of a listener that limits the time of each request, of each
-/// reply and of each stream.
-fn serve_timed<K: time::Clock, C: Clock, S: Alter>(
-    alloc: Global,
-    listener: &mut TimedListener<'_, K>,
-    streams: u32,
-    clock: &mut C,
-    desk: &mut Desk<S>,
-) -> Result<(), Ending>
-    ensures { ServesListener S.Store C.gives streams clock.old clock.new desk.old desk.new result }
-{
-    result_of_serving(serve_listener(alloc, listener, streams, clock, desk))
-}
-
-/// A listener whose streams are served on a desk.
-trait DeskListener {
-    /// Does what `serve_on` does.
-    fn serve_streams<C: Clock, S: Alter>(
-        &mut self,
-        alloc: Global,
-        streams: u32,
-        clock: &mut C,
-        desk: &mut Desk<S>,
-    ) -> Result<(), Ending>
-        ensures { ServesListener S.Store C.gives streams clock.old clock.new desk.old desk.new result };
-}
-
-impl DeskListener for &TcpListener {
-    fn serve_streams<C: Clock, S: Alter>(
-        &mut self,
-        alloc: Global,
-        streams: u32,
-        clock: &mut C,
-        desk: &mut Desk<S>,
-    ) -> Result<(), Ending> {
-        serve_on(alloc, *self, streams, clock, desk)
-    }
-}
-
-impl<K: time::Clock> DeskListener for TimedListener<'_, K> {
-    fn serve_streams<C: Clock, S: Alter>(
-        &mut self,
-        alloc: Global,
-        streams: u32,
-        clock: &mut C,
-        desk: &mut Desk<S>,
-    ) -> Result<(), Ending> {
-        serve_timed(alloc, self, streams, clock, desk)
-    }
+    serve_desk(alloc, &mut listener, streams, clock, desk)
 }
 
 /// Returns `Net` also if the port of 127.0.0.1 cannot be opened.
@@ -122,43 +83,71 @@ pub(crate) fn execute_serve_job<S: Alter>(
     };
     let mut clock = ProgramClock::new(rt, at);
     let mut timed = TimedListener::new(&listener, rt);
-    ending_of_serving(serve_timed(rt.alloc(), &mut timed, streams, &mut clock, desk))
+    ending_of_serving(serve_desk(rt.alloc(), &mut timed, streams, &mut clock, desk))
+}
+
+fn serve_stamped<P: Peer, L: Listener<Stream = P>, C: Clock, S: Alter>(
+    alloc: Global,
+    listener: &mut L,
+    clock: &mut C,
+    desk: &mut StampedDesk<S>,
+) -> Result<(), Ending>
+    ensures { ServesStamped S.Store C.gives clock.old clock.new desk.old desk.new result }
+{
+    result_of_serving(serve_stamped_listener(alloc, listener, 1, clock, desk))
 }
 
 // If the stream ends because memory ran out, or cannot be accepted, the file is closed.
-fn serve_stream_or_close<S: Alter, F: DeskFiles<Desk = Store<S>>, L: DeskListener, C: Clock>(
+fn serve_stream_or_close<
+    S: Alter,
+    F: DeskFiles<Desk = Store<S>>,
+    P: Peer,
+    L: Listener<Stream = P>,
+    C: Clock,
+>(
     alloc: Global,
     files: &F,
     listener: &mut L,
     clock: &mut C,
-    store: Store<S>,
-) -> Result<Store<S>, Ending>
-    ensures { ServesStreamOrCloses S.Store F.closes C.gives clock.old clock.new store result }
+    mut desk: StampedDesk<S>,
+) -> Result<StampedDesk<S>, Ending>
+    ensures { ServesStreamOrCloses S.Store F.closes C.gives clock.old clock.new desk result }
 {
-    let mut desk = Desk::new(store);
-    match listener.serve_streams(alloc, 1, clock, &mut desk) {
-        Ok(()) => Ok(desk.into_store()),
-        Err(ending) => Err(ending_after_close(ending, files.close(desk.into_store()))),
+    match serve_stamped(alloc, listener, clock, &mut desk) {
+        Ok(()) => Ok(desk),
+        Err(ending) => Err(ending_after_close(ending, files.close(into_store(desk)))),
     }
 }
 
-fn serve_next_stream<S: Alter, F: DeskFiles<Desk = Store<S>>, L: DeskListener, C: Clock>(
+fn serve_next_stream<
+    S: Alter,
+    F: DeskFiles<Desk = Store<S>>,
+    P: Peer,
+    L: Listener<Stream = P>,
+    C: Clock,
+>(
     alloc: Global,
     files: &F,
     path: &str,
     listener: &mut L,
     clock: &mut C,
-    store: Store<S>,
-) -> Result<Store<S>, Ending>
-    ensures { ServesNextStream S.Store F.opens F.closes C.gives path.now clock.old clock.new store result }
+    desk: StampedDesk<S>,
+) -> Result<StampedDesk<S>, Ending>
+    ensures { ServesNextStream S.Store F.opens F.closes C.gives path.now clock.old clock.new desk result }
 {
-    match ready_store(alloc, files, path, store) {
-        Ok(store) => serve_stream_or_close(alloc, files, listener, clock, store),
+    match ready_desk(alloc, files, path, desk) {
+        Ok(desk) => serve_stream_or_close(alloc, files, listener, clock, desk),
         Err(fault) => Err(Ending::Open(fault)),
     }
 }
 
-fn serve_file_by<S: Alter, F: DeskFiles<Desk = Store<S>>, L: DeskListener, C: Clock>(
+fn serve_file_by<
+    S: Alter,
+    F: DeskFiles<Desk = Store<S>>,
+    P: Peer,
+    L: Listener<Stream = P>,
+    C: Clock,
+>(
     alloc: Global,
     files: &F,
     path: &str,
@@ -169,22 +158,23 @@ fn serve_file_by<S: Alter, F: DeskFiles<Desk = Store<S>>, L: DeskListener, C: Cl
 ) -> Ending
     ensures { ServesStreamsAndCloses S.Store F.opens F.closes C.gives path.now streams clock.old store result }
 {
-    let mut store = store;
+    let mut desk = begin_serving(store);
     let mut served = 0u32;
     'streams: while served < streams {
-        store = match serve_next_stream(alloc, files, path, listener, clock, store) {
+        desk = match serve_next_stream(alloc, files, path, listener, clock, desk) {
             Ok(next) => next,
             Err(ending) => return ending,
         };
         served += 1;
     }
-    ending_after_close(Ending::Done, files.close(store))
+    ending_after_close(Ending::Done, files.close(into_store(desk)))
 }
 
 /// Serves `streams` streams of the listener in sequence on the store of the file at `path`, each as
 /// `serve_on` does, and closes the file. If a fault has closed the store, the file is opened and
 /// adopted again before the next stream. Returns `Open` with the fault if it cannot be, or if
-/// closing the file fails at the end.
+/// closing the file fails at the end, and `Open` with `Store` if the last stamp that is found in the
+/// file is before that of the last reply.
 pub fn serve_file_on<S: Alter, F: DeskFiles<Desk = Store<S>>, C: Clock>(
     alloc: Global,
     files: &F,
@@ -202,7 +192,8 @@ pub fn serve_file_on<S: Alter, F: DeskFiles<Desk = Store<S>>, C: Clock>(
 
 /// Serves streams like `execute_serve_job`, on the desk in the file at `path`, and closes the file.
 /// If a fault has closed the store, its file is opened and adopted again before the next stream.
-/// If it cannot be, returns `Open` with the fault.
+/// If it cannot be, or its last stamp is before that of the last reply, returns `Open` with the
+/// fault.
 pub(crate) fn execute_serve_job_in_file<S: Alter, F: DeskFiles<Desk = Store<S>>>(
     rt: &HostRuntime,
     files: &F,

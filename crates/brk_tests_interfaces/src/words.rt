@@ -40,8 +40,8 @@ fn append_words(mut text: String, words: &[String]) -> Result<String, AllocError
 // its id, or 0 if there is none; flags as `true` or `false`; other numbers and words as they are.
 fn format_job(alloc: Global, job: &Job) -> Result<String, AllocError> {
     match job {
-        Job::Batch { db, at } => format!(in alloc;
-            "batch {} {}",
+        Job::Batch { db, existing, at } => format!(in alloc;
+            "batch {} {existing} {}",
             path_or_hyphen(db),
             millis_or_minus_one(*at)
         ),
@@ -78,11 +78,12 @@ fn format_job(alloc: Global, job: &Job) -> Result<String, AllocError> {
         Job::Serve {
             port,
             db,
+            existing,
             at,
             streams,
         } => {
             format!(in alloc;
-                "serve {port} {} {} {streams}",
+                "serve {port} {} {existing} {} {streams}",
                 path_or_hyphen(db),
                 millis_or_minus_one(*at)
             )

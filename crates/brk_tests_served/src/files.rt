@@ -1,6 +1,7 @@
 //! Test of a service whose file fails: if the fault closes the store, the file is opened again
-//! before the next stream, or the service ends.
+//! before the next stream, or the service ends. It also ends if an older file is there by then.
 
+use crate::failing_files::FailingFiles;
 use brk_cli_exit::Ending;
 use brk_cli_jobs::{DeskFiles, serve_file_on};
 use brk_money::Fault;
@@ -11,14 +12,11 @@ use brk_tests_desks::retried::{ROWS, all_lines_of_retry};
 use brk_tests_desks::worked::format_batch;
 use brk_tests_files::crashes::{STOPS, expect_committed_rows, fail_unless, tables_after_each_row};
 use brk_tests_files::machine::{
-    CACHED_PAGES, Held, MachineCrash, close_database, files_after_crash, files_failing_at_crash,
-    files_with_reference_data, open_database, options_with_cached_pages, run_batch_until_crash,
+    Held, MachineCrash, files_with_reference_data, run_batch_until_crash,
 };
 use brk_tests_unit::{Results, run_test};
-use sqlite::{Alter, Connection, FileStore, Files};
-use sqlite_disk::{Fuse, Memory};
+use sqlite::Alter;
 use std::alloc::{AllocError, Global};
-use std::cell::Cell;
 use std::io;
 use std::io::{Read, Write};
 use std::net::{Shutdown, SocketAddr, TcpListener, TcpStream};
@@ -31,128 +29,11 @@ const STREAMS: u32 = 3;
 // the stream before and two new ones.
 const ROWS_OF_STREAMS: [usize; 3] = [2, 4, 6];
 
-// The number of frames of the log after which it is copied into the database file, so that this file
-// is written within the day, and not only at its end.
-const FRAMES_OF_LOG: usize = 20;
-
-// The number of replies 200 to the last stream if its query and six rows are all accepted.
-const ALL_REPLIES: usize = 7;
+// The number of replies 200 to each stream if its query and its rows are all accepted.
+const ALL_REPLIES: [usize; 3] = [3, 5, 7];
 
 // A number of calls that is greater than that of each file in each service.
 const MOST_CALLS: u64 = 10_000;
-
-type FileConnection = Connection<FileStore<Fuse<Memory>>>;
-
-type FileDesk = Store<FileStore<Fuse<Memory>>>;
-
-// The two files of a desk in memory: the bytes that they have while they are closed, whether one of
-// them has failed, how they fail when they are opened next, and at all later times, and how often
-// they were opened.
-#[derive(Drop)]
-struct FailingFiles {
-    alloc: Global,
-    held: Cell<Held>,
-    has_failed: Cell<bool>,
-    next: Cell<MachineCrash>,
-    later: MachineCrash,
-    openings: Cell<u64>,
-}
-
-impl FailingFiles {
-    // Returns the files with these bytes, which fail by `stop` when they are opened first, and by
-    // `later` at all later times.
-    fn new(alloc: Global, held: Held, stop: MachineCrash, later: MachineCrash) -> FailingFiles {
-        FailingFiles {
-            alloc,
-            held: Cell::new(held),
-            has_failed: Cell::new(false),
-            next: Cell::new(stop),
-            later,
-            openings: Cell::new(0),
-        }
-    }
-
-    // Returns the bytes of the files, which must be closed.
-    fn into_held(self) -> Held {
-        let FailingFiles { held, .. } = self;
-        held.into_inner()
-    }
-
-    // Stores the bytes that the files have when they are opened next, or none if memory runs out,
-    // and whether one of them has failed, or would at its next call.
-    fn store_files(&self, files: Files<Fuse<Memory>>) {
-        if let Ok((held, has_failed)) = files_after_crash(self.alloc, files, self.later.loses) {
-            self.held.set(held);
-            self.has_failed.set(has_failed || self.has_failed.get());
-        }
-    }
-
-    // Adopts the desk in the database of the files. Closes the files and stores their bytes if that
-    // fails, and returns the fault.
-    fn adopt(&self, conn: FileConnection) -> Result<FileDesk, Fault> {
-        match adopt_store(self.alloc, conn) {
-            Ok(store) => Ok(store),
-            Err((conn, fault)) => {
-                self.store_files(close_database(conn));
-                Err(fault)
-            }
-        }
-    }
-}
-
-fn adopt_store<S: Alter + Drop>(
-    alloc: Global,
-    conn: Connection<S>,
-) -> Result<Store<S>, (Connection<S>, Fault)> {
-    Store::adopt(alloc, conn)
-}
-
-fn connection_of_store<S: Alter + Drop>(store: Store<S>) -> Connection<S> {
-    store.into_conn()
-}
-
-impl DeskFiles for FailingFiles {
-    type Desk = FileDesk;
-
-    ghost opens_or_creates = { λ _ _. Unit {0} };
-
-    ghost opens = { λ _ _. Unit {0} };
-
-    ghost closes = { λ _ _. Unit {0} };
-
-    fn open_or_create(&self, path: &str) -> Result<Self::Desk, Fault> {
-        self.open(path)
-    }
-
-    fn open(&self, _path: &str) -> Result<Self::Desk, Fault> {
-        let held = self.held.replace(Held::empty_files(self.alloc));
-        let stop = self.next.replace(self.later);
-        self.openings.set(self.openings.get().saturating_add(1));
-        let files = files_failing_at_crash(self.alloc, &held, stop)?;
-        let mut options = options_with_cached_pages(CACHED_PAGES);
-        options.checkpoint_frames = FRAMES_OF_LOG;
-        match open_database(self.alloc, files, options) {
-            Ok(conn) => self.adopt(conn),
-            Err(files) => {
-                self.store_files(files);
-                Err(Fault::Store)
-            }
-        }
-    }
-
-    fn close(&self, store: Self::Desk) -> Result<(), Fault> {
-        match connection_of_store(store).close_files() {
-            Ok(files) => {
-                self.store_files(files);
-                Ok(())
-            }
-            Err((_, store)) => {
-                self.store_files(store.close());
-                Err(Fault::Store)
-            }
-        }
-    }
-}
 
 // Returns the JSON list of the fields of a row.
 fn json_of_row(alloc: Global, row: &str) -> Result<String, AllocError> {
@@ -331,7 +212,12 @@ impl Served {
 
     // Returns true if the service ended without a fault, and its last stream has all replies.
     fn is_complete(self) -> bool {
-        matches!(self.end, ServiceEnd::Done) && self.counts[2] == ALL_REPLIES
+        matches!(self.end, ServiceEnd::Done) && self.counts[2] == ALL_REPLIES[2]
+    }
+
+    // Returns true if the first stream has all replies, and the second one has not.
+    fn has_fault_in_second_stream(self) -> bool {
+        self.counts[0] == ALL_REPLIES[0] && self.counts[1] < ALL_REPLIES[1]
     }
 
     // Returns the greatest number of rows that a stream has replies 200 to.
@@ -440,33 +326,66 @@ fn expect_service_recovered(
         calls: if goes_on { 0 } else { u64::MAX },
         ..stop
     };
-    let files = FailingFiles::new(rt.alloc(), service.start.copy()?, stop, later);
+    let files = FailingFiles::new(rt.alloc(), service.start.copy()?, None, stop, later);
     let served = serve_rows(rt, &files, service.requests)?;
     let held = files.into_held();
     expect_recovered(rt.alloc(), stop, goes_on, served, &held, service.tables)?;
     Ok(served)
 }
 
+// Serves the streams as a service did whose files failed by `stop` in the second stream, but with
+// the files of its begin in their place when they are opened again: they lack the rows of the first
+// stream. Checks that the service ends with the store fault and does not serve the third stream.
+fn expect_older_files_refused(
+    rt: &HostRuntime,
+    stop: MachineCrash,
+    service: Service<'_>,
+) -> Result<(), Fail> {
+    let older = Some(service.start.copy()?);
+    let later = MachineCrash {
+        calls: u64::MAX,
+        ..stop
+    };
+    let files = FailingFiles::new(rt.alloc(), service.start.copy()?, older, stop, later);
+    let Some(served) = serve_rows(rt, &files, service.requests)? else {
+        return Err(Fail::new("not opened"));
+    };
+    let is_refused = served.was_reopened
+        && served.ended_with_store_fault()
+        && served.counts[2] == 0;
+    fail_unless(is_refused, stop, "an older file was served")
+}
+
 // Serves the streams with a failure of `stop` at each call of its file in turn, until a service has
 // no fault, and checks each service (`expect_service_recovered`). If its files were opened again,
-// serves the streams once more with files that then fail again. Checks that there is such a service.
+// serves the streams once more with files that then fail again and, if they failed in the second
+// stream, with older ones. Checks that there are such services.
 fn expect_each_service_recovered(
     rt: &HostRuntime,
     stop: MachineCrash,
     service: Service<'_>,
 ) -> Result<(), Fail> {
     let mut was_reopened = false;
+    let mut was_refused = false;
     for calls in 0..MOST_CALLS {
         let stop = MachineCrash { calls, ..stop };
         let Some(served) = expect_service_recovered(rt, stop, false, service)? else {
             continue;
         };
         if !served.had_fault {
-            return fail_unless(was_reopened, stop, "no file was opened again");
+            return fail_unless(
+                was_reopened && was_refused,
+                stop,
+                "no file was opened again",
+            );
         }
         if served.was_reopened {
             was_reopened = true;
             expect_service_recovered(rt, stop, true, service)?;
+        }
+        if served.was_reopened && served.has_fault_in_second_stream() {
+            was_refused = true;
+            expect_older_files_refused(rt, stop, service)?;
         }
     }
     Err(Fail::new("always stopped"))
@@ -476,9 +395,10 @@ fn expect_each_service_recovered(
 // three streams, two more than on the stream before, and whose log or database file fails at each
 // of its calls in turn, and at all later ones, with the bytes that were not synced lost or stored.
 // A stream after the failure has a reply to its query: its store is open, or the files were opened
-// again. If they can be, the last stream has a reply to each row; if they fail again at once, the
-// service ends with `Open(Store)`. Both happen with each of the files. The desk in the files then
-// has all rows that were accepted, or one row more, and its batch can be completed.
+// again. If they can be, the last stream has a reply to each row; if they fail again at once, or are
+// older ones, which lack the rows of the first stream, the service ends with `Open(Store)`. All three
+// happen with each of the files. The desk in the files then has all rows that were accepted, or one
+// row more, and its batch can be completed.
 fn a_served_desk_recovers_from_disk_faults(rt: &HostRuntime) -> Result<(), Fail> {
     let requests = requests_of_streams(rt.alloc())?;
     let tables = tables_after_each_row(rt.alloc())?;

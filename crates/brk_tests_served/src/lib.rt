@@ -3,6 +3,7 @@
 //! checks is not so, and also if a desk for it cannot be set up or memory runs out.
 #![tactic(auto)]
 
+mod failing_files;
 mod files;
 mod sockets;
 

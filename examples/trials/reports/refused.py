@@ -1,4 +1,4 @@
-"""Wrong arguments and files, a desk that is held or was killed, and desks without a trade."""
+"""Wrong arguments and files, a desk that a run has or that was killed, and desks without a trade."""
 
 import os
 import pathlib
@@ -12,7 +12,7 @@ from desks import FIRST, PEERS, REPORTS, TOP, Market, content_of, date_of, writt
 
 
 def refusals(trial, desk):
-    """Wrong arguments, files that are no desk, a desk that is held, and output that fails."""
+    """Wrong arguments, files that are no desk, a desk that a run has, and output that fails."""
     path, folder = desk.path, trial.folder
     (folder / "nothing.db").write_bytes(b"")
     (folder / "text.db").write_text("no database\n" * 1000)
@@ -66,12 +66,10 @@ def refusals(trial, desk):
     process.stdin.write("batch,HELD\ndeposit,999,1.00\ndeposit,999,1.00\n")
     process.stdin.flush()
     process.stdout.readline()
-    for script, words in starts.items():
-        status, rows, errors = trial.script(script, *words(path))
-        trial.tell(f"{script}: a desk that brk has", (status, rows, "is in use" in errors, errors.count("\n")), (1, [], True, 1))
-    process.communicate("end,2\n")
     status, rows, errors = trial.script("report", "trades", path)
-    trial.tell("after it", (status, len(rows), errors), (0, len(desk.completed), ""))
+    trial.tell("a desk that brk has", (status, len(rows), errors), (0, len(desk.completed), ""))
+    told, _ = process.communicate("end,2\n")
+    trial.tell("the run goes on", told.splitlines()[-1:], ["end,0,0,2"])
     killed(trial, folder / "killed.db", path)
 
 

@@ -72,7 +72,11 @@ def by(content):
     return replace
 
 
-def endings_of(at):
+def by_desk(files):
+    return lambda path: placed(path, files)
+
+
+def endings_of(at, job):
     """What a server may find after a sync that failed, the sync number `at(..)`."""
     for sql, word in DAMAGES:
         yield Ending(at(), sql, changed_by(sql), (1, f"brk: damaged: {word}\n"))
@@ -81,6 +85,8 @@ def endings_of(at):
     yield Ending(at(), "the file is removed, and its log stays", beside_log, SCHEMA, is_again=False)
     yield Ending(at(), "an empty file", by(b""), SCHEMA, is_again=False)
     yield Ending(at(), "a text", by(b"A text, and no database.\n" * 500), serving.STORE)
+    # its audit passes, but its last stamp is before that of the last reply
+    yield Ending(at(), "an older copy of the desk", by_desk(job.before), serving.STORE, is_again=False)
 
 
 def sent_until_fault(job, server):

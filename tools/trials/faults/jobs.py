@@ -9,9 +9,13 @@ import cases
 import states
 from cases import OLDER, SETTING, WELL
 from days import REFUSED, day_of
-from sendings import Audit, Program, Sending, found, placed
+from sendings import Audit, Pair, Program, Sending, found, placed
 
 DAY_ROWS, LONG_ROWS = 40, 150
+# the orders that one tick submits, which makes one large commit
+ORDERS = 200
+TICK = "feed,ABC,500.00,10"
+SMALL = [f"deposit,100,{n}.00" for n in range(1, 5)]
 
 
 def arguments(doc, **numbers):
@@ -42,6 +46,17 @@ def desk_of(program):
     return found(path)
 
 
+def desk_with_orders(program, desk):
+    """The file of a desk with pending orders that one tick submits."""
+    path = program.path("orders.db")
+    placed(path, desk)
+    rows = [f"order,100,TLS,ABC,{n % 9 + 1},20.00,cash,fifo,Ann,Lee,T10" for n in range(ORDERS)]
+    ended = program.batch(path, cases.batch_of("ORDERS", rows))
+    if ended.how != WELL or sum(",PNDG," in line for line in ended.lines) != ORDERS:
+        sys.exit(f"the orders were not entered: {ended.how}")
+    return found(path)
+
+
 def day(program, name, rng, count, desk):
     """A day whose refused rows are refused at whatever moment they are sent."""
     made = Sending(program, name, day_of(rng, count), desk)
@@ -52,14 +67,25 @@ def day(program, name, rng, count, desk):
 
 
 def jobs_of(program, seed):
-    """A new desk, a day, two upgrades, and a day with a checkpoint of its log in it."""
+    """A new desk, a day, two upgrades, a day with a checkpoint of its log in it, and a tick that is one large commit."""
     rng, desk = random.Random(seed), desk_of(program)
+    large = [*SMALL[:2], TICK, *SMALL[2:]]
     return {
         "a new desk": Sending(program, "SET", SETTING.decode().splitlines()[1:-1]),
         "a day": day(program, "DAY", rng, DAY_ROWS, desk),
         "schema 1": Audit(program, "FIRST", {"d": (OLDER / "first.db").read_bytes()}),
         "schema 2": Audit(program, "SECOND", {"d": (OLDER / "second.db").read_bytes()}),
         "a long day": day(program, "LONG", rng, LONG_ROWS, desk),
+        "a large commit": Sending(program, "LARGE", large, desk_with_orders(program, desk)),
+    }
+
+
+def pairs_of(program, made):
+    """A large commit and small ones after it, and a checkpoint and small commits after it, each of another batch."""
+    large, long = made["a large commit"], made["a long day"]
+    return {
+        "a large commit, then small ones": Pair(program, "TICK", [TICK], SMALL, large.before),
+        "a long day, then another batch": Pair(program, "AFTER", long.rows, SMALL, long.before),
     }
 
 

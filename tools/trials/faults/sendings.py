@@ -207,6 +207,46 @@ class Sending:
         return booked - rows
 
 
+class Pair:
+    """A batch that is disturbed, and then another one with other rows, which is disturbed too. What has to hold after both is said as of
+    one sending, but that the tables are those after some rows of the first and then some rows of the second."""
+
+    def __init__(self, program, name, first, second, before):
+        self.program, self.before = program, before
+        self.first = Sending(program, f"{name}-1", first, before)
+        self.second_name, self.second_rows = f"{name}-2", second
+        self.runs, self.lock = {}, threading.Lock()
+
+    def send(self, path, **faults):
+        """Sends the second batch."""
+        return self.program.batch(path, batch_of(self.second_name, self.second_rows), **faults)
+
+    def undisturbed(self, first, second):
+        """The tables after so many rows of each batch, and the lines of the second."""
+        with self.lock:
+            if (first, second) not in self.runs:
+                path = self.program.path(f"{self.second_name}-undisturbed.db")
+                placed(path, self.before)
+                self.program.batch(path, self.first.batch(first))
+                ended = self.program.batch(path, batch_of(self.second_name, self.second_rows[:second]))
+                expect(ended.how == WELL, f"undisturbed: {ended.how}")
+                self.runs[first, second] = dump_of(path), ended.lines
+                removed(path)
+            return self.runs[first, second]
+
+    def settled(self, path, rows, ended):
+        """Checks what the two runs left, of which the first acknowledged so many rows, and the second ended so."""
+        audit = self.program.audit(path)
+        expect(audit.how == WELL and audit.output == b"ok\n", f"{rows} rows acknowledged, then {len(ended.lines)}, audit: {audit.how}")
+        dump = dump_of(path)
+        for first in range(rows, min(rows + 1, len(self.first.rows)) + 1):
+            for second in range(len(ended.lines), min(len(ended.lines) + 1, len(self.second_rows)) + 1):
+                tables, lines = self.undisturbed(first, second)
+                if dump == tables and ended.lines == lines[: len(ended.lines)]:
+                    return first - rows + second - len(ended.lines)
+        raise Wrong(f"{rows} rows acknowledged, then {len(ended.lines)}, and the tables are not those after them or one more of each")
+
+
 class Audit:
     """An audit of a file, which upgrades one of an older schema: as a sending of no row."""
 

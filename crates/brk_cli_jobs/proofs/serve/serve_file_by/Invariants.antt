@@ -1,12 +1,15 @@
 use Rattle.std.proofs.Common.{◌≤◌, ◌-◌}
-use Rattle.brk_cli_jobs.specs.Serving.{RunsSinceOpening, ServesInSequence}
+use Rattle.brk_http_stamps.specs.declared.stamped_desk.StampedDesk.{StampedDesk}
+use Rattle.brk_cli_jobs.specs.Serving.{BeginsServing, RunsSinceOpening, ServesInSequence}
 use Rattle.brk_cli_jobs.proofs.serve.serve_file_by.Given as goal
 
 abbrev pub invariant-streams : goal.invariant-streams
 invariant-streams g l = record {
   within : l.served ≤ l.streams;
-  so_far : ServesInSequence g.S.Store g.F.DeskFiles.opens g.F.DeskFiles.closes g.C.Clock.gives l.path l.served l.fn.clock l.clock l.fn.store l.store;
-  run : RunsSinceOpening g.S.Store g.F.DeskFiles.opens l.path l.fn.store l.store;
+  first : StampedDesk _;
+  began : BeginsServing g.S.Store l.fn.store first;
+  so_far : ServesInSequence g.S.Store g.F.DeskFiles.opens g.F.DeskFiles.closes g.C.Clock.gives l.path l.served l.fn.clock l.clock first l.desk;
+  run : RunsSinceOpening g.S.Store g.F.DeskFiles.opens l.path l.fn.store l.desk;
 }
 
 abbrev pub decreases-streams : goal.decreases-streams

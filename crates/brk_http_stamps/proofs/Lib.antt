@@ -1,0 +1,4 @@
+pub mod Keeping
+pub mod Projected
+pub mod Runs
+pub mod Serving

@@ -1,0 +1,2 @@
+pub mod Stamped
+pub mod Stamps
