@@ -89,10 +89,19 @@ def copy_whole(file, copy):
     fold(copy)
 
 
+def has_journal(file):
+    """Whether a journal of sqlite3 is beside a file, which was not played back."""
+    try:
+        with open(f"{file}-journal", "rb") as journal:
+            return journal.read(1) not in (b"", b"\0")
+    except FileNotFoundError:
+        return False
+
+
 def require_desk(file, copy):
     if not os.path.isfile(file) or not os.path.getsize(file):
         raise NoCopy(f"no desk: {file} is missing or empty")
-    if os.path.exists(f"{file}-journal"):
+    if has_journal(file):
         raise NoCopy(f"{file}-journal is there: another program changes the file, or was killed while it did: brk-why {file}")
     for path in (copy, f"{copy}-wal"):
         if os.path.lexists(path):

@@ -85,6 +85,13 @@ def of_sql(text_of):
     return lambda number: None if number is None else text_of(whole(number))
 
 
+def add_functions(conn):
+    """Adds the functions of the reports' SQL."""
+    for name, text_of in (("amount_text", amount_text), ("day_text", day_text), ("time_text", time_text)):
+        conn.create_function(name, 1, of_sql(text_of), deterministic=True)
+    conn.create_aggregate("amount_sum", 1, AmountSum)
+
+
 def why(path, error):
     """Says what an error means that came while a file was read."""
     text = str(error).removeprefix(f"{path}: ")
@@ -108,9 +115,7 @@ def opened(path):
             if desk != (desk_books.SCHEMA,):
                 number = "without a row of DESK" if desk is None else f"of schema {desk[0]}, and not {desk_books.SCHEMA}"
                 raise Refused(f"{path} is {number}; brk audit upgrades a file of an older schema")
-            for name, text_of in (("amount_text", amount_text), ("day_text", day_text), ("time_text", time_text)):
-                conn.create_function(name, 1, of_sql(text_of), deterministic=True)
-            conn.create_aggregate("amount_sum", 1, AmountSum)
+            add_functions(conn)
             yield conn
     except (OSError, sqlite3.Error) as error:
         raise Refused(why(path, error)) from None

@@ -38,7 +38,7 @@ while True:
         if reply.status not in (502, 503, 504):
             print(reply.status, told)
             break
-    except (ConnectionError, http.client.HTTPException):
+    except (OSError, http.client.HTTPException):
         told = "it does not listen"
     if time.monotonic() > until:
         sys.exit(told)

@@ -1,0 +1,1 @@
+"""The page that the staff of a desk work in; docs/PAGE.md describes it."""

@@ -1,0 +1,7 @@
+-- The balance of an account at the end of each day on which it had cash rows.
+SELECT DAY, BALANCE AS CENTS FROM (
+    SELECT CM_DTS / 86400000 AS DAY, CM_ID, CA_OPEN + sum(CM_AMT) OVER (ORDER BY CM_ID) AS BALANCE,
+        max(CM_ID) OVER (PARTITION BY CM_DTS / 86400000) AS LAST
+    FROM CASH_MOVE JOIN CUSTOMER_ACCOUNT ON CA_ID = CM_CA_ID WHERE CM_CA_ID = :account)
+WHERE CM_ID = LAST
+ORDER BY DAY

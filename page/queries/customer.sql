@@ -1,0 +1,2 @@
+-- A customer.
+SELECT * FROM CUSTOMER WHERE C_ID = :customer

@@ -1,0 +1,3 @@
+-- The taxes that a customer pays.
+SELECT TX_ID, TX_NAME, TX_RATE FROM CUSTOMER_TAXRATE JOIN TAXRATE ON TX_ID = CX_TX_ID WHERE CX_C_ID = :customer
+ORDER BY TX_ID

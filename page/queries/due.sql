@@ -1,0 +1,9 @@
+-- What is due on each day from :first to :last, over all accounts.
+SELECT SE_CASH_DUE_DATE AS DAY, count(*) AS TRADES,
+    sum_text(sum(SE_AMT / 1000000) FILTER (WHERE SE_AMT > 0), sum(SE_AMT % 1000000) FILTER (WHERE SE_AMT > 0)) AS RECEIVED,
+    sum_text(sum(SE_AMT / 1000000) FILTER (WHERE SE_AMT < 0), sum(SE_AMT % 1000000) FILTER (WHERE SE_AMT < 0)) AS PAID,
+    sum_text(sum(SE_AMT / 1000000), sum(SE_AMT % 1000000)) AS NET
+FROM SETTLEMENT
+WHERE SE_CASH_DUE_DATE BETWEEN :first AND :last
+GROUP BY SE_CASH_DUE_DATE
+ORDER BY SE_CASH_DUE_DATE

@@ -1,0 +1,10 @@
+-- The completed trades of an account in a security, the newest first, each with the shares that were held after it.
+SELECT time_text(T_DTS) AS COMPLETED, T_ID AS TRADE, T_TT_ID AS TYPE, SHARES, amount_text(T_TRADE_PRICE) AS PRICE,
+    amount_text(SHARES * T_TRADE_PRICE) AS VALUE, sum(SHARES) OVER (ORDER BY T_DTS, T_ID) AS HELD,
+    (SELECT amount_sum(CASE WHEN HH_BEFORE_QTY > 0 THEN 1 ELSE -1 END * abs(HH_BEFORE_QTY - HH_AFTER_QTY)
+        * (HERE.T_TRADE_PRICE - OPENER.T_TRADE_PRICE))
+     FROM HOLDING_HISTORY JOIN TRADE AS OPENER ON OPENER.T_ID = HH_H_T_ID
+     WHERE HH_T_ID = HERE.T_ID AND HH_BEFORE_QTY <> 0) AS GAIN
+FROM (SELECT *, CASE WHEN T_TT_ID IN ('TMB', 'TLB') THEN T_QTY ELSE -T_QTY END AS SHARES FROM TRADE
+      WHERE T_CA_ID = :account AND T_S_SYMB = :symbol AND T_ST_ID = 'CMPT') AS HERE
+ORDER BY T_DTS DESC, T_ID DESC

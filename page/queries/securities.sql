@@ -1,0 +1,6 @@
+-- The securities with their last prices, and what waits for another price.
+SELECT S_SYMB AS SYMBOL, 'feed' AS ACTION, S_NAME AS NAME, amount_text(LT_PRICE) AS LAST_PRICE, time_text(LT_DTS) AS SINCE,
+    S_EX_ID AS EXCHANGE, S_SECTOR AS SECTOR, LT_VOL AS VOLUME,
+    (SELECT count(*) FROM TRADE_REQUEST WHERE TR_S_SYMB = S_SYMB) AS PENDING
+FROM SECURITY JOIN LAST_TRADE ON LT_S_SYMB = S_SYMB
+ORDER BY S_SYMB
